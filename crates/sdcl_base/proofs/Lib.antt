@@ -1,0 +1,4 @@
+pub mod In
+pub mod Closure
+pub mod Marking
+pub mod Models

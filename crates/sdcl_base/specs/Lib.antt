@@ -1,0 +1,10 @@
+pub mod Literal
+pub mod Truth
+pub mod Sets
+pub mod Propagation
+pub mod Redundancy
+pub mod Examples
+pub mod Laws
+pub mod Codes
+pub mod Marks
+pub mod Values

@@ -1,0 +1,26 @@
+//! Laws over the definitions. Each is the contract of a function that does nothing: a caller that names it
+//! has the law.
+ghost use Rattle.std.specs.Prelude.{◌≡◌, true, [], ◌∷◌};
+ghost use Rattle.sdcl_base.specs.Literal.{pos_lit};
+ghost use Rattle.sdcl_base.specs.Propagation.{refutes};
+ghost use Rattle.sdcl_base.specs.Examples.{f32};
+ghost use Rattle.sdcl_base.specs.Laws.{ClosureIsClosed, ClosureIsLeast, RefutesMore, ModelMeets};
+
+/// The pigeonhole formula of two holes refutes the decision 1.
+pub fn pigeons_are_refuted_by_a_decision()
+    ensures { refutes f32 (pos_lit 1 ∷ []) ≡ true }
+{}
+
+/// The closure is the least set that holds its start and to which a round adds nothing, so propagation
+/// only grows with the formula and with the set.
+pub fn closure_laws()
+    ensures closed { ClosureIsClosed }
+    ensures least { ClosureIsLeast }
+    ensures more { RefutesMore }
+{}
+
+/// Where propagation ends without a conflict and gives every variable of the formula a value, these values
+/// meet the formula.
+pub fn model_law()
+    ensures { ModelMeets }
+{}

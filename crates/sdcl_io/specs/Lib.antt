@@ -1,0 +1,9 @@
+pub mod World
+pub mod Reading
+pub mod Readers
+pub mod Memory
+pub mod StdSeen
+pub mod Words
+pub mod Step
+pub mod Sinks
+pub mod Laws
