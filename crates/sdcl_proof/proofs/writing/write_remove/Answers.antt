@@ -1,0 +1,19 @@
+use Rattle.std.proofs.Common.{◌≡◌, ◌++◌, refl, Ok, Err, Result, rules}
+use Rattle.sdcl_proof.proofs.Sequel.{writes_then, writes_fails, deletion_line}
+use Rattle.sdcl_proof.proofs.writing.write_remove.Goals as goal
+
+pub returns-in_err-write_all-clause-writes : goal.returns-in_err-write_all-clause-writes
+returns-in_err-write_all-clause-writes g c =
+    let failed : c.from_residual.result ≡ Err c.in_err-write_all.field-0.0 = search rules in
+    writes_fails _ _ _ _ _ _ _ _ _ c.in_err-write_all.was failed (deletion_line c.args.clause.now) c.write_all.ensures.writes
+
+pub returns-in_err-write_literals-clause-writes : goal.returns-in_err-write_literals-clause-writes
+returns-in_err-write_literals-clause-writes g c =
+    let failed : c.from_residual-in_err-write_literals.result ≡ Err c.in_err-write_literals.field-0.0 = search rules in
+    writes_then _ _ _ _ _ _ _ _ _ _ c.in_ok-write_all.was (deletion_line c.args.clause.now) c.write_all.ensures.writes
+    (writes_fails _ _ _ _ _ _ _ _ _ c.in_err-write_literals.was failed refl c.write_literals.ensures.writes)
+
+pub returns-clause-writes : goal.returns-clause-writes
+returns-clause-writes g c =
+    writes_then _ _ _ _ _ _ _ _ _ _ c.in_ok-write_all.was (deletion_line c.args.clause.now) c.write_all.ensures.writes
+    (writes_then _ _ _ _ _ _ _ _ _ _ c.in_ok-write_literals.was refl c.write_literals.ensures.writes c.write_all-2.ensures.writes)
