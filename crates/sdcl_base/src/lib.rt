@@ -8,6 +8,8 @@ pub mod laws;
 pub mod lit;
 pub mod lit_set;
 pub mod store;
+#[cfg(test)]
+mod tests;
 
 pub use assignment::Assignment;
 pub use clause::Clause;

@@ -1,3 +1,4 @@
 pub mod Held
+pub mod Taken
 pub mod Wrote
 pub mod Judging

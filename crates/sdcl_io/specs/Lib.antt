@@ -1,6 +1,9 @@
 pub mod World
+pub mod Unused
 pub mod Reading
 pub mod Readers
+pub mod Calls
+pub mod Files
 pub mod Memory
 pub mod StdSeen
 pub mod Words

@@ -1,6 +1,5 @@
 -- What a reader has given and has left.
-use Rattle.std.specs.Prelude.{◌≡◌, ◌⊎◌, ◌≤◌, ◌<◌, ℕ, ◌+◌, ◌-◌, ◌^◌, List, [], ◌∷◌, ◌++◌, length, take, drop, ⊤, IsSome, Option, Some, None, Result, Ok, Err, MatchResult, IfOk, IfErr, IfSome, OnOk, IsErrOf}
-use Rattle.std.specs.Io.KnownBytes.{prepend_known}
+use Rattle.std.specs.Prelude.{◌≡◌, ◌≤◌, ◌<◌, ℕ, ◌+◌, ◌^◌, List, [], ◌∷◌, length, ⊤, Option, Some, None, Result, Err, IfOk, IfErr, IfSome, OnOk, IsErrOf}
 use Rattle.sdcl_io.specs.declared.world.InRole.{InRole}
 use Rattle.sdcl_io.specs.declared.reader.ByteError.{ByteError}
 use Rattle.sdcl_io.specs.declared.reader.ByteError.TheVariants.{ReadFault, TooLong}

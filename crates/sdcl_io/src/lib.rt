@@ -7,6 +7,8 @@ pub mod memory;
 pub mod reader;
 pub mod sink;
 pub mod std_world;
+#[cfg(test)]
+mod tests;
 pub mod world;
 pub mod writing;
 

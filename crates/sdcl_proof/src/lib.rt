@@ -2,6 +2,8 @@
 #![tactic(auto)]
 
 pub mod proof_file;
+#[cfg(test)]
+mod tests;
 pub mod writing;
 
 pub use proof_file::ProofFile;
