@@ -1,0 +1,10 @@
+pub mod Numbers
+pub mod Fitting
+pub mod Scanning
+pub mod Following
+pub mod Judged
+pub mod Running
+pub mod Telling
+pub mod Onward
+pub mod Taking
+pub mod Refused

@@ -1,1 +1,10 @@
 pub mod FormulaText
+pub mod Faults
+pub mod Scan
+pub mod Scans
+pub mod Judging
+pub mod Parsers
+pub mod Within
+pub mod Tokens
+pub mod Answers
+pub mod Taking

@@ -1,0 +1,4 @@
+pub mod Values
+pub mod Phases
+pub mod Ending
+pub mod Completing

@@ -1,0 +1,51 @@
+-- One phase of a run after another.
+use Rattle.std.proofs.Common.{◌≡◌, ◌∙◌, ◌≤◌, ℕ, List, [], Option, Some, None, Result, Ok, Err, IsTrue, refl, sym, ap, subst, arith}
+use Rattle.sdcl_io.specs.declared.world.OutRole.{OutRole}
+use Rattle.sdcl_io.specs.declared.world.OutRole.TheVariants.{Proof}
+use Rattle.sdcl_io.specs.declared.world.Failed.{Failed}
+use Rattle.sdcl_io.specs.World.{Seen, Later, Creates, Holds}
+use Rattle.sdcl_proof.specs.Lines.{text_of}
+use Rattle.sdcl_proof.specs.Files.{Onward, HoldsSteps, IsText}
+use Rattle.sdcl.specs.Proving.{OnlyProof}
+
+pub later_on : (s t u : Seen) → Later s t → Later t u → Later s u
+later_on s t u h k = record {
+  memory = k.memory ∙ h.memory;
+  tells = k.tells ∙ h.tells;
+  reads = λ r. omega (arith, h.reads r, k.reads r);
+  writes = λ r. omega (arith, h.writes r, k.writes r);
+  opens = λ r n. omega (arith, h.opens r n, k.opens r n);
+  creates = λ r n. omega (arith, h.creates r n, k.creates r n);
+  calm = λ c. k.calm (h.calm c);
+}
+
+-- a new output holds no step
+pub nothing_held : (name : List ℕ) (s t : Seen) (r : Result Unit Failed) (x : Unit) → r ≡ Ok x → Creates Proof name s t r → HoldsSteps Proof t [] None
+unfolding text_of
+nothing_held name s t r x e h = let k : Creates Proof name s t (Ok x) = subst (Creates Proof name s t) e h in λ tells. k.empty (subst IsTrue k.later.tells tells)
+
+some_same : (a b : List ℕ) → Some a ≡ Some b → a ≡ b
+some_same a b e = cc
+
+none_is_none : {A : Type 0} {x : A} → None ≡ Some x → ⊥
+none_is_none e = cc
+
+-- the proof is made, and then written
+pub made_and_written : (name : List ℕ) (s t u : Seen) (r : Result Unit Failed) (x : Unit) → r ≡ Ok x → Creates Proof name s t r → Onward Proof t u → OnlyProof name s u
+made_and_written name s t u r x e h k = record {
+  inputs = λ tells o d.
+      let made : Creates Proof name s t (Ok x) = subst (Creates Proof name s t) e h in
+      k.only.inputs o (λ n a b. d (sym (h.stand o) ∙ a ∙ ap Some (some_same n name (sym b ∙ made.name_is.1 tells)))) ∙ h.inputs o d;
+  there = λ o d. k.only.there o ∙ h.there o d;
+  outputs = λ o d. k.only.outputs o d ∙ h.outputs o d;
+  names = λ o d e. k.only.names o ∙ h.names o d (λ q. none_is_none (sym e ∙ q)) ∙ e;
+  later = later_on s t u h.later k.only.later;
+}
+
+-- the file of the proof's name holds what the proof holds
+pub file_holds : (name : List ℕ) (s t u : Seen) (r : Result Unit Failed) (x : Unit) → r ≡ Ok x → Creates Proof name s t r → Onward Proof t u → IsTrue s.tells → u.file name ≡ u.held Proof
+file_holds name s t u r x e h k tells =
+    let made : Creates Proof name s t (Ok x) = subst (Creates Proof name s t) e h in
+    let is_named : t.named Proof ≡ Some name = made.name_is.1 tells in
+    let holds : Holds Proof t = λ n d. let q : n ≡ name = some_same n name (sym d ∙ is_named) in ap t.file q ∙ made.file in
+    k.file holds name (k.only.names Proof ∙ is_named)

@@ -1,0 +1,54 @@
+//! A short line of text that takes no memory.
+ghost use Rattle.std.specs.Prelude.{◌≡◌, ◌≤◌, ◌+◌, ◌++◌, length};
+
+use std::marker::Model;
+
+/// At most 80 bytes.
+#[derive(Drop)]
+pub struct Line {
+    bytes: [u8; 80],
+    len: usize,
+}
+
+impl Model for Line {
+    ghost use Rattle.std.specs.Prelude.{◌≤◌, ℕ, List, take};
+
+    ghost Value = { List ℕ };
+
+    ghost view = { λ l. take l.len l.bytes };
+
+    ghost invariant = { λ l. l.len ≤ 80 };
+}
+
+impl Line {
+    /// The line of one piece.
+    pub fn of(piece: &[u8]) -> Line
+        requires { length piece.now ≤ 80 }
+        ensures { result ≡ piece.now }
+    {
+        let mut bytes = [0; 80];
+        bytes[..piece.len()].copy_from_slice(piece);
+        Line {
+            bytes,
+            len: piece.len(),
+        }
+    }
+
+    /// The line with a piece more.
+    pub fn and(self, piece: &[u8]) -> Line
+        requires { length self + length piece.now ≤ 80 }
+        ensures { result ≡ self ++ piece.now }
+    {
+        let mut bytes = self.bytes;
+        let len = self.len + piece.len();
+        bytes[self.len..len].copy_from_slice(piece);
+        Line { bytes, len }
+    }
+
+    /// The bytes of the line.
+    pub fn bytes(&self) -> &[u8]
+        ensures { result.now ≡ self.now }
+    {
+        &self.bytes[..self.len]
+    }
+}

@@ -1,0 +1,271 @@
+//! Whole runs over a world in memory.
+ghost use Rattle.sdcl_io.specs.Memory.{seen_of};
+ghost use Rattle.sdcl.specs.Running.{IsFresh};
+
+use crate::run::run;
+use sdcl_base::NoMemory;
+use sdcl_io::{CallKind, InRole, MemoryWorld, OutRole};
+use std::alloc::{AllocError, Global};
+use std::test::Fail;
+
+fn words_of(alloc: Global, words: &[&str]) -> Result<Vec<String>, AllocError> {
+    let mut list = Vec::new(alloc);
+    for word in words {
+        list.push(String::from_str(alloc, word)?)?;
+    }
+    Ok(list)
+}
+
+// What a run leaves.
+#[derive(Drop)]
+struct Ended {
+    code: u8,
+    out: Vec<u8>,
+    err: Vec<u8>,
+    proof: Option<Vec<u8>>,
+}
+
+impl Ended {
+    fn is(&self, code: u8, out: &[u8], err: &[u8], proof: Option<&[u8]>) -> bool {
+        let same_proof = match (&self.proof, proof) {
+            (Some(held), Some(wanted)) => held.as_slice() == wanted,
+            (None, None) => true,
+            _ => false,
+        };
+        self.code == code && self.out.as_slice() == out && self.err.as_slice() == err && same_proof
+    }
+}
+
+fn put_formula(world: &mut MemoryWorld, text: Option<&[u8]>) -> Result<(), NoMemory>
+    requires { IsFresh (seen_of world.old) }
+    ensures { IsFresh (seen_of world.new) }
+{
+    if let Some(text) = text {
+        world.put_file("f", text)?;
+    }
+    Ok(())
+}
+
+fn plan_failure(world: &mut MemoryWorld, failing: Option<(CallKind, u64)>) -> Result<(), NoMemory>
+    requires { IsFresh (seen_of world.old) }
+    ensures { IsFresh (seen_of world.new) }
+{
+    if let Some((kind, nth)) = failing {
+        world.fail_at(kind, nth)?;
+    }
+    Ok(())
+}
+
+// Runs the words in a world that has the formula under the name f, gives at most so many bytes a read, and
+// fails where it is told to.
+fn end(
+    alloc: Global,
+    words: &[&str],
+    text: Option<&[u8]>,
+    most: usize,
+    failing: Option<(CallKind, u64)>,
+) -> Result<Ended, Fail> {
+    let words = words_of(alloc, words)?;
+    let mut world = MemoryWorld::new(alloc);
+    put_formula(&mut world, text)?;
+    world.cut_reads(most.max(1));
+    plan_failure(&mut world, failing)?;
+    let code = run(alloc, &mut world, words.as_slice()).code();
+    let proof = match world.file("p") {
+        Some(held) => Some(Vec::from_slice(alloc, held)?),
+        None => None,
+    };
+    Ok(Ended {
+        code,
+        out: Vec::from_slice(alloc, world.out())?,
+        err: Vec::from_slice(alloc, world.err())?,
+        proof,
+    })
+}
+
+const SOLVE: [&str; 3] = ["solve", "f", "p"];
+
+const THREE_PIGEONS: &[u8] =
+    b"p cnf 6 9\n1 2 0\n3 4 0\n5 6 0\n-1 -3 0\n-1 -5 0\n-3 -5 0\n-2 -4 0\n-2 -6 0\n-4 -6 0\n";
+
+// A formula's text, and the status, the output and the proof that it gives.
+const VERDICTS: [(&[u8], u8, &[u8], &[u8]); 9] = [
+    (b"p cnf 0 0\n", 10, b"s SATISFIABLE\nv 0\n", b""),
+    (b"p cnf 1 1\n0\n", 20, b"s UNSATISFIABLE\n", b"0\n"),
+    (b"p cnf 2 1\n1 2 0\n", 10, b"s SATISFIABLE\nv 1 2 0\n", b""),
+    (
+        b"p cnf 12 0\n",
+        10,
+        b"s SATISFIABLE\nv 1 2 3 4 5 6 7 8 9 10 11 12\nv 0\n",
+        b"",
+    ),
+    (b"p cnf 1 1\n1 -1 0\n", 10, b"s SATISFIABLE\nv 1 0\n", b""),
+    (b"p cnf 1 1\n-1 0\n", 10, b"s SATISFIABLE\nv -1 0\n", b""),
+    (
+        b"p cnf 2 3\n1 2 1 0\n-1 0\n-2 0\n",
+        20,
+        b"s UNSATISFIABLE\n",
+        b"0\n",
+    ),
+    (THREE_PIGEONS, 20, b"s UNSATISFIABLE\n", b"-1 0\n0\n"),
+    (
+        b"c a small file\nc\np cnf 3  2\r\n -1 2 3 0\n-2\n 3 0\n%\n0\n\n",
+        10,
+        b"s SATISFIABLE\nv 1 2 3 0\n",
+        b"",
+    ),
+];
+
+#[test]
+fn each_formula_gets_its_verdict_and_its_proof(rt: HostRuntime) -> Result<(), Fail> {
+    for (text, code, out, proof) in VERDICTS {
+        for most in [4096usize, 3, 1] {
+            let ended = end(rt.alloc(), &SOLVE, Some(text), most, None)?;
+            assert!(rt; ended.is(code, out, b"", Some(proof)));
+        }
+    }
+    Ok(())
+}
+
+#[test]
+fn other_words_are_a_usage_fault(rt: HostRuntime) -> Result<(), Fail> {
+    let lists: [&[&str]; 6] = [
+        &[],
+        &["solve"],
+        &["solve", "f"],
+        &["solve", "f", "f"],
+        &["solve", "f", "p", "q"],
+        &["check", "f", "p"],
+    ];
+    for list in lists {
+        let ended = end(rt.alloc(), list, Some(THREE_PIGEONS), 4096, None)?;
+        assert!(rt; ended.is(2, b"", b"sdcl: usage\n", None));
+    }
+    Ok(())
+}
+
+// A text that is no formula, and the line that says so.
+const FAULTS: [(&[u8], &[u8]); 12] = [
+    (b"", b"sdcl: formula fault 1 at 0\n"),
+    (b"p dnf 1 1\n", b"sdcl: formula fault 2 at 2\n"),
+    (b"p cnf\n", b"sdcl: formula fault 2 at 6\n"),
+    (b"p cnf 4194304 0\n", b"sdcl: formula fault 3 at 6\n"),
+    (b"p cnf 1 16777216\n", b"sdcl: formula fault 4 at 8\n"),
+    (b"p cnf 1 1\n-0\n", b"sdcl: formula fault 5 at 10\n"),
+    (b"p cnf 1 1\n2 0\n", b"sdcl: formula fault 6 at 10\n"),
+    (b"p cnf 1 1\n1", b"sdcl: formula fault 7 at 11\n"),
+    (b"p cnf 1 1\n", b"sdcl: formula fault 8 at 10\n"),
+    (b"p cnf 1 1\n1 0 1 0\n", b"sdcl: formula fault 9 at 14\n"),
+    (b"p cnf 1 1\n%\n", b"sdcl: formula fault 5 at 10\n"),
+    (
+        b"c 1\np cnf 1 1\nc 2\n+1 0\n",
+        b"sdcl: formula fault 5 at 18\n",
+    ),
+];
+
+#[test]
+fn the_first_fault_is_named(rt: HostRuntime) -> Result<(), Fail> {
+    for (text, line) in FAULTS {
+        for most in [4096usize, 1] {
+            let ended = end(rt.alloc(), &SOLVE, Some(text), most, None)?;
+            assert!(rt; ended.is(3, b"", line, None));
+        }
+    }
+    Ok(())
+}
+
+// A call that fails, and the status, the line and the proof that the three pigeons then give.
+const BROKEN: [(CallKind, u64, u8, &[u8], Option<&[u8]>); 8] = [
+    (
+        CallKind::Open(InRole::Formula),
+        1,
+        4,
+        b"sdcl: open fault formula\n",
+        None,
+    ),
+    (
+        CallKind::Read(InRole::Formula),
+        1,
+        5,
+        b"sdcl: read fault formula\n",
+        None,
+    ),
+    (
+        CallKind::Read(InRole::Formula),
+        2,
+        5,
+        b"sdcl: read fault formula\n",
+        None,
+    ),
+    (
+        CallKind::Create(OutRole::Proof),
+        1,
+        4,
+        b"sdcl: open fault proof\n",
+        None,
+    ),
+    (
+        CallKind::Write(OutRole::Proof),
+        1,
+        6,
+        b"sdcl: write fault proof\n",
+        Some(b""),
+    ),
+    (
+        CallKind::Write(OutRole::Proof),
+        3,
+        6,
+        b"sdcl: write fault proof\n",
+        Some(b"-1 "),
+    ),
+    (
+        CallKind::Write(OutRole::Proof),
+        4,
+        6,
+        b"sdcl: write fault proof\n",
+        Some(b"-1 0\n"),
+    ),
+    (
+        CallKind::Write(OutRole::Out),
+        1,
+        6,
+        b"sdcl: write fault out\n",
+        Some(b"-1 0\n0\n"),
+    ),
+];
+
+#[test]
+fn a_failing_call_has_its_status_and_leaves_a_prefix(rt: HostRuntime) -> Result<(), Fail> {
+    for (kind, nth, code, line, proof) in BROKEN {
+        let ended = end(
+            rt.alloc(),
+            &SOLVE,
+            Some(THREE_PIGEONS),
+            4096,
+            Some((kind, nth)),
+        )?;
+        assert!(rt; ended.is(code, b"", line, proof));
+    }
+    Ok(())
+}
+
+#[test]
+fn a_missing_formula_is_an_open_fault(rt: HostRuntime) -> Result<(), Fail> {
+    let ended = end(rt.alloc(), &SOLVE, None, 4096, None)?;
+    assert!(rt; ended.is(4, b"", b"sdcl: open fault formula\n", None));
+    Ok(())
+}
+
+// A prefix of the proof that the three pigeons get where nothing fails.
+#[test]
+fn each_later_failure_leaves_more_of_the_proof(rt: HostRuntime) -> Result<(), Fail> {
+    let whole = b"-1 0\n0\n";
+    for nth in 1..6u64 {
+        let failing = Some((CallKind::Write(OutRole::Proof), nth));
+        let ended = end(rt.alloc(), &SOLVE, Some(THREE_PIGEONS), 4096, failing)?;
+        let held = ended.proof.ok_or("no proof")?;
+        assert!(rt; whole.starts_with(held.as_slice()));
+        assert_eq!(rt; ended.code, if nth < 5 { 6 } else { 20 });
+    }
+    Ok(())
+}

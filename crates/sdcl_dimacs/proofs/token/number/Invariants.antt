@@ -1,0 +1,13 @@
+use Rattle.std.proofs.Common.{◌≡◌, ◌^◌, ◌<◌, ◌≤◌, drop, length}
+use Rattle.std.specs.Str.{all_ascii_digits}
+use Rattle.std.specs.Str.Parse.{digits_value, digits_value_after}
+use Rattle.sdcl_dimacs.proofs.token.number.Given as goal
+
+abbrev pub invariant-loop-byte : goal.invariant-loop-byte
+invariant-loop-byte l = record {
+  digits : all_ascii_digits (drop l.byte-index l.word) ≡ all_ascii_digits l.word;
+  value : digits_value_after 10 l.value (drop l.byte-index l.word) ≡ digits_value 10 l.word;
+  bound : l.value < 10 ^ l.byte-index;
+  low : 1 ≤ length l.word;
+  short : length l.word ≤ 10;
+}

@@ -1,0 +1,6 @@
+pub mod Levels
+pub mod Within
+pub mod Scanning
+pub mod Errors
+pub mod Telling
+pub mod Outcome

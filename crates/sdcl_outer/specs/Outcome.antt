@@ -1,0 +1,60 @@
+-- How a run of the solver ends.
+use Rattle.std.specs.Prelude.{◌≡◌, ◌≢◌, ⊤, ℕ, ◌+◌, ◌≤◌, Bool, true, false, List, [], ◌∷◌, ◌++◌, length, Option, None, IfSome}
+use Rattle.std.specs.List.{list_any, list_all}
+use Rattle.sdcl_base.specs.Literal.{Literal, Clause, names}
+use Rattle.sdcl_base.specs.Truth.{meets}
+use Rattle.sdcl_base.specs.Sets.{In}
+use Rattle.sdcl_base.specs.Propagation.{closure, refutes}
+use Rattle.sdcl_base.specs.Redundancy.{is_new}
+use Rattle.sdcl_base.specs.Values.{IsTotal, truth_of}
+use Rattle.sdcl_io.specs.Step.{Step, Add, AddWitness, Delete, All, End, Verified, adds_empty, apply, apply_all, judge, valid, ValidSteps}
+use Rattle.sdcl_outer.specs.Telling.{IsTold}
+use Rattle.sdcl_outer.specs.declared.solving.Answer.{Answer}
+use Rattle.sdcl_outer.specs.declared.solving.Answer.TheVariants as answer
+
+-- whether the step is an addition without a witness
+abbrev pub is_plain : Step → Bool
+is_plain (Add c) = true
+is_plain (AddWitness c w) = false
+is_plain (Delete c) = false
+
+-- a clause with a literal is new over f, and its variables are from 1 to n
+abbrev pub IsNewClause : ℕ → List Clause → Clause → Type 0
+IsNewClause n f [] = ⊤
+IsNewClause n f (l ∷ ls) = (is_new f (l ∷ ls) ≡ true) × ((m : Literal) → In (l ∷ ls) m → (1 ≤ m.var) × (m.var ≤ n))
+
+-- the clause that the step adds is so
+abbrev pub AddsNew : ℕ → List Clause → Step → Type 0
+AddsNew n f (Add c) = IsNewClause n f c
+AddsNew n f (AddWitness c w) = IsNewClause n f c
+AddsNew n f (Delete d) = ⊤
+
+-- the clause of each step is so, over what the steps before it leave
+unfoldable pub NewSteps : ℕ → List Clause → List Step → Type 0
+NewSteps n f [] = ⊤
+NewSteps n f (s ∷ ss) = AddsNew n f s × NewSteps n (apply All f s) ss
+
+-- after the decisions ds come these: each has a variable from 1 to n to which propagation from those before it gives no value
+abbrev pub AreDecisions : ℕ → List Clause → Clause → Clause → Type 0
+AreDecisions n f ds [] = ⊤
+AreDecisions n f ds (l ∷ ls) = ((1 ≤ l.var) × (l.var ≤ n) × (names (closure f ds) l ≡ false)) × AreDecisions n f (ds ++ l ∷ []) ls
+
+-- at least one decision, and f refutes them
+pub record AreRefuted (n : ℕ) (f : List Clause) (ds : Clause) : Type 0 where
+  pub some : ds ≢ []
+  pub decisions : AreDecisions n f [] ds
+  pub refuted : refutes f ds ≡ true
+
+-- the answer is right of the formula f over the variables from 1 to n, after these steps
+abbrev pub Ends : List Clause → ℕ → ℕ → List Step → Answer → Type 0
+Ends f n budget steps (answer.Model a) = IsTotal n a × (meets (truth_of a) f ≡ true) × (length a ≡ n + 1)
+Ends f n budget steps answer.Refuted = (earlier : List Step) × (steps ≡ earlier ++ Add [] ∷ []) × (list_any adds_empty earlier ≡ false) × (judge All f steps End ≡ Verified)
+Ends f n budget steps answer.Spent = (length steps ≡ budget) × (list_all is_plain steps ≡ true) × ((ds : Clause) × AreRefuted n (apply_all All f steps) ds)
+
+-- the sink took valid steps that add new clauses, and the answer is right after them
+abbrev pub Answers : {S : Type 0} → (S → List Step → Option Step → Type 0) → S → S → List Clause → ℕ → ℕ → Answer → Type 0
+Answers tells old new f n budget a = (steps : List Step) × IsTold tells old new steps None × ValidSteps f steps × Ends f n budget steps a × NewSteps n f steps
+
+-- the sink took valid steps that add new clauses, and a step that failed would have been valid after them
+abbrev pub Breaks : {S : Type 0} → (S → List Step → Option Step → Type 0) → S → S → List Clause → ℕ → Type 0
+Breaks tells old new f n = (steps : List Step) × (torn : Option Step) × IsTold tells old new steps torn × ValidSteps f steps × IfSome torn (λ s. valid (apply_all All f steps) s ≡ true) × NewSteps n f steps
