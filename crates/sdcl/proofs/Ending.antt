@@ -80,6 +80,7 @@ answered names variables f answer s0 s1 s2 s3 p =
       steps = p.proved.0;
       text = p.loaded.text;
       valid = p.proved.1;
+      new = p.proved.4;
       written = steps_stay s2 s3 p.proved.0 None p.printed.later.tells (p.printed.outputs output.Proof proof_not_out) p.proved.2;
       file = λ tells. p.printed.files names.proof (λ e. none_is_none (sym unnamed ∙ e)) ∙ p.file (subst IsTrue (sym p.read.later.tells) tells) ∙ sym (p.printed.outputs output.Proof proof_not_out);
       silent = p.printed.outputs output.Err err_not_out ∙ p.only.outputs output.Err err_not_proof ∙ p.read.outputs output.Err;

@@ -7,7 +7,7 @@ use Rattle.sdcl_io.specs.declared.world.OutRole.TheVariants.{Proof}
 use Rattle.sdcl_io.specs.World.{Seen, Later, Calm, Rose}
 use Rattle.sdcl_io.specs.Step.{Step, All, apply_all, valid, ValidSteps}
 use Rattle.sdcl_proof.specs.Files.{HoldsSteps}
-use Rattle.sdcl_outer.specs.Outcome.{Ends as Concludes}
+use Rattle.sdcl_outer.specs.Outcome.{Ends as Concludes, NewSteps}
 use Rattle.sdcl_outer.specs.declared.solving.Answer.{Answer}
 use Rattle.sdcl.specs.declared.refusal.Place.TheVariants as place
 use Rattle.sdcl.specs.declared.refusal.Refusal.{Refusal}
@@ -27,7 +27,7 @@ HoldsLawful f t = IsTrue (t.is_there Proof) → (steps : List Step) × (torn : O
 
 -- the output Proof holds the lines of valid steps that bear the answer out
 abbrev pub IsProved : ℕ → ℕ → List Clause → Seen → Answer → Type 0
-IsProved variables budget f t answer = (steps : List Step) × ValidSteps f steps × HoldsSteps Proof t steps None × Concludes f variables budget steps answer
+IsProved variables budget f t answer = (steps : List Step) × ValidSteps f steps × HoldsSteps Proof t steps None × Concludes f variables budget steps answer × NewSteps variables f steps
 
 -- why there is no answer
 abbrev pub ProveCause : List ℕ → List Clause → Seen → Seen → Refusal → Type 0

@@ -14,7 +14,7 @@ use Rattle.sdcl_io.specs.Step.{Step, ValidSteps}
 use Rattle.sdcl_proof.specs.Files.{HoldsSteps}
 use Rattle.sdcl_dimacs.specs.FormulaText.{FormulaFault, FormulaOver, Accepted, formula_text}
 use Rattle.sdcl_dimacs.specs.Faults.{kind_code}
-use Rattle.sdcl_outer.specs.Outcome.{Ends as Concludes}
+use Rattle.sdcl_outer.specs.Outcome.{Ends as Concludes, NewSteps}
 use Rattle.sdcl_outer.specs.declared.solving.Answer.{Answer}
 use Rattle.sdcl_outer.specs.declared.solving.Answer.TheVariants as answer
 use Rattle.sdcl.specs.Commands.{Names, names_of}
@@ -39,13 +39,14 @@ NoComplaint s t = t.held output.Err ≡ s.held output.Err
 
 -- what a verdict rests on: the named formula's text, which was read out, stands for these clauses over so many
 -- variables, and the output Proof, and the file of its name, hold the lines of these steps, each valid over what those
--- before it leave
+-- before it leave, and each but the addition of the empty clause new there
 pub record Answered (names : Names) (s t : Seen) : Type 0 where
   pub variables : ℕ
   pub clauses : List Clause
   pub steps : List Step
   pub text : StandsFor (s.file names.formula) (Accepted variables clauses)
   pub valid : ValidSteps clauses steps
+  pub new : NewSteps variables clauses steps
   pub written : HoldsSteps output.Proof t steps None
   pub file : IsTrue s.tells → t.file names.proof ≡ t.held output.Proof
   pub silent : NoComplaint s t

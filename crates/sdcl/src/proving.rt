@@ -5,7 +5,7 @@ ghost use Rattle.sdcl_io.specs.World.{Rose};
 ghost use Rattle.sdcl_io.specs.Step.{Step, All, apply_all, valid, ValidSteps};
 ghost use Rattle.sdcl_proof.specs.Files.{Onward, HoldsSteps};
 ghost use Rattle.sdcl_outer.specs.Within.{WithinVariables};
-ghost use Rattle.sdcl_outer.specs.Outcome.{Ends as Concludes};
+ghost use Rattle.sdcl_outer.specs.Outcome.{Ends as Concludes, NewSteps};
 ghost use Rattle.sdcl.specs.Proving.{Proves};
 
 use crate::loading::Loaded;
@@ -54,7 +54,7 @@ fn solve_into_file<W: World>(
     requires within { WithinVariables loaded.variables loaded.store }
     requires room { length loaded.store + options.now.budget < 4294967294 }
     ensures onward { Onward Proof (W.seen world.old) (W.seen world.new) }
-    ensures ok { IfOk result (λ a. (steps : List Step) × ValidSteps loaded.store steps × HoldsSteps Proof (W.seen world.new) steps None × Concludes loaded.store loaded.variables options.now.budget steps a) }
+    ensures ok { IfOk result (λ a. (steps : List Step) × ValidSteps loaded.store steps × HoldsSteps Proof (W.seen world.new) steps None × Concludes loaded.store loaded.variables options.now.budget steps a × NewSteps loaded.variables loaded.store steps) }
     ensures err { OnErr result ((steps : List Step) × (torn : Option Step) × ValidSteps loaded.store steps × IfSome torn (λ step. valid (apply_all All loaded.store steps) step ≡ true) × HoldsSteps Proof (W.seen world.new) steps torn) }
     ensures fault { IsErrOf result SolveError.WriteFault → Rose ((W.seen world.old).write_faults Proof) ((W.seen world.new).write_faults Proof) }
     ensures follows { W.follows world.old world.new }

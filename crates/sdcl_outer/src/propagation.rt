@@ -1,7 +1,7 @@
 //! Unit propagation by scanning all clauses.
-ghost use Rattle.std.specs.Prelude.{◌≡◌, ◌⊎◌, ◌≤◌, ◌<◌, ◌+◌, ℕ, true, false, length};
+ghost use Rattle.std.specs.Prelude.{◌≡◌, ◌⊎◌, ◌≤◌, true, false, length};
 ghost use Rattle.sdcl_base.specs.Marks.{no_repeats};
-ghost use Rattle.sdcl_base.specs.Literal.{Literal, Clause};
+ghost use Rattle.sdcl_base.specs.Literal.{Literal};
 ghost use Rattle.sdcl_base.specs.Sets.{In};
 ghost use Rattle.sdcl_base.specs.Propagation.{refutes};
 ghost use Rattle.sdcl_outer.specs.Levels.{decisions, IsSound};

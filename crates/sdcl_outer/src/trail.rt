@@ -1,5 +1,5 @@
 //! The trail.
-ghost use Rattle.std.specs.Prelude.{◌≡◌, ◌↔◌, ◌≤◌, ◌<◌, ◌+◌, ℕ, true, Some, None, [], ◌∷◌, IfOk, IfSome, OnOk, MatchOption, IsSome, length};
+ghost use Rattle.std.specs.Prelude.{◌≡◌, ◌↔◌, ◌≤◌, ◌<◌, ◌+◌, ℕ, true, Some, None, [], IfOk, MatchOption, IsSome, length};
 ghost use Rattle.std.specs.List.{list_any};
 ghost use Rattle.sdcl_base.specs.Literal.{complements};
 ghost use Rattle.sdcl_base.specs.Marks.{no_repeats};

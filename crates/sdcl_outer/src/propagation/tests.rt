@@ -1,5 +1,4 @@
 //! Propagation against its definition: whole sets of literals, in rounds.
-ghost use Rattle.std.specs.Prelude.{◌<◌, ◌+◌, length};
 
 use crate::propagation::propagate;
 use crate::tests::store_of;
