@@ -7,7 +7,8 @@ use Rattle.sdcl_io.specs.declared.world.InRole.TheVariants as input
 use Rattle.sdcl_io.specs.declared.world.OutRole.{OutRole}
 use Rattle.sdcl_io.specs.declared.world.OutRole.TheVariants as output
 use Rattle.sdcl_io.specs.World.{Seen, OnlyWrote, OnlyRead, Later, Rose}
-use Rattle.sdcl_io.specs.Step.{Step, All, apply_all, valid, ValidSteps}
+use Rattle.sdcl_io.specs.Step.{Step, All, End, apply_all, valid, ValidSteps}
+use Rattle.sdcl_io.proofs.Refuted.{verified_law}
 use Rattle.sdcl_proof.specs.Files.{HoldsSteps, IsText}
 use Rattle.sdcl_outer.specs.declared.solving.Answer.{Answer}
 use Rattle.sdcl_outer.specs.declared.solving.Answer.TheVariants as answer
@@ -105,6 +106,7 @@ verdict names variables f (answer.Model a) s0 s1 s2 s3 p h = record {
 verdict names variables f answer.Refuted s0 s1 s2 s3 p h = record {
   answered = answered names variables f answer.Refuted s0 s1 s2 s3 p;
   refutes = p.proved.3;
+  unsatisfiable = verified_law All f p.proved.0 End p.proved.3.3;
   printed = out_text names variables f answer.Refuted s0 s1 s2 s3 _ p h;
 }
 verdict names variables f answer.Spent s0 s1 s2 s3 p h = record {

@@ -5,7 +5,7 @@ use Rattle.std.specs.declared.string.String.{String}
 use Rattle.std.specs.declared.alloc.Global.{Global}
 use Rattle.std.specs.Io.KnownBytes.{Appends}
 use Rattle.sdcl_base.specs.Literal.{Clause}
-use Rattle.sdcl_base.specs.Truth.{meets}
+use Rattle.sdcl_base.specs.Truth.{meets, Unsatisfiable}
 use Rattle.sdcl_base.specs.Values.{IsTotal, truth_of}
 use Rattle.sdcl_io.specs.declared.world.InRole.TheVariants as input
 use Rattle.sdcl_io.specs.declared.world.OutRole.TheVariants as output
@@ -60,10 +60,11 @@ pub record IsSatisfiable (names : Names) (s t : Seen) : Type 0 where
   pub meets_all : meets (truth_of model) answered.clauses ≡ true
   pub printed : Appends (s.held output.Out) (t.held output.Out) (satisfiable_text answered.variables model)
 
--- the written steps refute the formula, and the last one adds the empty clause
+-- the written steps refute the formula, and the last one adds the empty clause; so no total assignment meets the formula
 pub record IsUnsatisfiable (names : Names) (s t : Seen) : Type 0 where
   pub answered : Answered names s t
   pub refutes : Concludes answered.clauses answered.variables budget answered.steps answer.Refuted
+  pub unsatisfiable : Unsatisfiable answered.clauses
   pub printed : Appends (s.held output.Out) (t.held output.Out) (codes "s UNSATISFIABLE\n")
 
 -- the written steps are exactly the budget of additions

@@ -4,7 +4,7 @@ ghost use Rattle.std.specs.Prelude.{◌≡◌, true, [], ◌∷◌};
 ghost use Rattle.sdcl_base.specs.Literal.{pos_lit};
 ghost use Rattle.sdcl_base.specs.Propagation.{refutes};
 ghost use Rattle.sdcl_base.specs.Examples.{f32};
-ghost use Rattle.sdcl_base.specs.Laws.{ClosureIsClosed, ClosureIsLeast, RefutesMore, ModelMeets};
+ghost use Rattle.sdcl_base.specs.Laws.{ClosureIsClosed, ClosureIsLeast, RefutesMore, ModelMeets, RupKeeps, RatKeeps, PrKeeps};
 
 /// The pigeonhole formula of two holes refutes the decision 1.
 pub fn pigeons_are_refuted_by_a_decision()
@@ -23,4 +23,11 @@ pub fn closure_laws()
 /// meet the formula.
 pub fn model_law()
     ensures { ModelMeets }
+{}
+
+/// Where an assignment meets the formula, one meets it with a RUP, RAT or PR clause added.
+pub fn redundancy_laws()
+    ensures rup { RupKeeps }
+    ensures rat { RatKeeps }
+    ensures pr { PrKeeps }
 {}

@@ -1,8 +1,8 @@
 -- What a formula text stands for: a number of variables and a list of clauses, a fault, or a text over its limit.
-use Rattle.std.specs.Prelude.{ℕ, zero, suc, ◌==◌, nat_lt, Bool, true, false, ◌&&◌, List, [], ◌∷◌, ◌++◌, length, Option, None, Some, codes, if◌then◌else◌}
+use Rattle.std.specs.Prelude.{ℕ, zero, suc, nat_lt, Bool, List, [], ◌∷◌, ◌++◌, length, None, Some, codes, if◌then◌else◌}
 use Rattle.std.specs.Str.{bytes_eq}
 use Rattle.sdcl_base.specs.Literal.{Literal, Clause, has}
-use Rattle.sdcl_io.specs.Words.{Word, words_within, is_over, begins_with, number_word, Token, Closing, Named, Other, token}
+use Rattle.sdcl_io.specs.Words.{Word, words_within, is_over, begins_with, number_word, Closing, Named, Other, token}
 
 -- the number of variables and the clauses, a fault of this kind at this offset, or a text over its limit
 pub data FormulaText : Type 0 where

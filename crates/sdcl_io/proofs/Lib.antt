@@ -2,3 +2,4 @@ pub mod Held
 pub mod Taken
 pub mod Wrote
 pub mod Judging
+pub mod Refuted
