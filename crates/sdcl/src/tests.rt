@@ -34,6 +34,13 @@ impl Ended {
         };
         self.code == code && self.out.as_slice() == out && self.err.as_slice() == err && same_proof
     }
+
+    fn leaves_a_prefix_of(&self, whole: &[u8]) -> bool {
+        match &self.proof {
+            Some(held) => whole.starts_with(held.as_slice()),
+            None => true,
+        }
+    }
 }
 
 fn put_formula(world: &mut MemoryWorld, text: Option<&[u8]>) -> Result<(), NoMemory>
@@ -89,7 +96,7 @@ const THREE_PIGEONS: &[u8] =
     b"p cnf 6 9\n1 2 0\n3 4 0\n5 6 0\n-1 -3 0\n-1 -5 0\n-3 -5 0\n-2 -4 0\n-2 -6 0\n-4 -6 0\n";
 
 // A formula's text, and the status, the output and the proof that it gives.
-const VERDICTS: [(&[u8], u8, &[u8], &[u8]); 9] = [
+const VERDICTS: [(&[u8], u8, &[u8], &[u8]); 12] = [
     (b"p cnf 0 0\n", 10, b"s SATISFIABLE\nv 0\n", b""),
     (b"p cnf 1 1\n0\n", 20, b"s UNSATISFIABLE\n", b"0\n"),
     (b"p cnf 2 1\n1 2 0\n", 10, b"s SATISFIABLE\nv 1 2 0\n", b""),
@@ -101,6 +108,14 @@ const VERDICTS: [(&[u8], u8, &[u8], &[u8]); 9] = [
     ),
     (b"p cnf 1 1\n1 -1 0\n", 10, b"s SATISFIABLE\nv 1 0\n", b""),
     (b"p cnf 1 1\n-1 0\n", 10, b"s SATISFIABLE\nv -1 0\n", b""),
+    (b"p cnf 0 0\r\n", 10, b"s SATISFIABLE\nv 0\n", b""),
+    (b"p cnf 1 0\n%x\n", 10, b"s SATISFIABLE\nv 1 0\n", b""),
+    (
+        b"p cnf 1 1\n1 1 -1 1 0\n",
+        10,
+        b"s SATISFIABLE\nv 1 0\n",
+        b"",
+    ),
     (
         b"p cnf 2 3\n1 2 1 0\n-1 0\n-2 0\n",
         20,
@@ -145,7 +160,7 @@ fn other_words_are_a_usage_fault(rt: HostRuntime) -> Result<(), Fail> {
 }
 
 // A text that is no formula, and the line that says so.
-const FAULTS: [(&[u8], &[u8]); 12] = [
+const FAULTS: [(&[u8], &[u8]); 21] = [
     (b"", b"sdcl: formula fault 1 at 0\n"),
     (b"p dnf 1 1\n", b"sdcl: formula fault 2 at 2\n"),
     (b"p cnf\n", b"sdcl: formula fault 2 at 6\n"),
@@ -161,6 +176,21 @@ const FAULTS: [(&[u8], &[u8]); 12] = [
         b"c 1\np cnf 1 1\nc 2\n+1 0\n",
         b"sdcl: formula fault 5 at 18\n",
     ),
+    (
+        b"p cnf 1 1\n00000000001 0\n",
+        b"sdcl: formula fault 5 at 10\n",
+    ),
+    (
+        b"p cnf 1 1\n9999999999 0\n",
+        b"sdcl: formula fault 6 at 10\n",
+    ),
+    (b"p cnf 1 1\n1\0 0\n", b"sdcl: formula fault 5 at 10\n"),
+    (b"p cnf 1\n", b"sdcl: formula fault 2 at 8\n"),
+    (b"p cnf -1 0\n", b"sdcl: formula fault 2 at 6\n"),
+    (b"pcnf 1 1\n", b"sdcl: formula fault 1 at 0\n"),
+    (b"p\ncnf 1 1\n", b"sdcl: formula fault 2 at 10\n"),
+    (b"c\n", b"sdcl: formula fault 1 at 2\n"),
+    (b"p cnf 2 1\n1 2\n\n0 0\n", b"sdcl: formula fault 9 at 17\n"),
 ];
 
 #[test]
@@ -256,16 +286,26 @@ fn a_missing_formula_is_an_open_fault(rt: HostRuntime) -> Result<(), Fail> {
     Ok(())
 }
 
-// A prefix of the proof that the three pigeons get where nothing fails.
+// A kind of call, the status of its failing, and how often the three pigeons make it.
+const CALLS: [(CallKind, u8, u64); 5] = [
+    (CallKind::Open(InRole::Formula), 4, 1),
+    (CallKind::Read(InRole::Formula), 5, 2),
+    (CallKind::Create(OutRole::Proof), 4, 1),
+    (CallKind::Write(OutRole::Proof), 6, 4),
+    (CallKind::Write(OutRole::Out), 6, 1),
+];
+
 #[test]
-fn each_later_failure_leaves_more_of_the_proof(rt: HostRuntime) -> Result<(), Fail> {
-    let whole = b"-1 0\n0\n";
-    for nth in 1..6u64 {
-        let failing = Some((CallKind::Write(OutRole::Proof), nth));
-        let ended = end(rt.alloc(), &SOLVE, Some(THREE_PIGEONS), 4096, failing)?;
-        let held = ended.proof.ok_or("no proof")?;
-        assert!(rt; whole.starts_with(held.as_slice()));
-        assert_eq!(rt; ended.code, if nth < 5 { 6 } else { 20 });
+fn each_call_fails_in_its_turn_until_none_is_left(rt: HostRuntime) -> Result<(), Fail> {
+    let calls = CALLS.as_slice();
+    for (kind, code, made) in calls {
+        for nth in 1..6u64 {
+            let failing = Some((*kind, nth));
+            let ended = end(rt.alloc(), &SOLVE, Some(THREE_PIGEONS), 4096, failing)?;
+            let due = if nth <= *made { *code } else { 20 };
+            assert!(rt; ended.code == due);
+            assert!(rt; ended.leaves_a_prefix_of(b"-1 0\n0\n"));
+        }
     }
     Ok(())
 }
