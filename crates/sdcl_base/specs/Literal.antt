@@ -60,10 +60,14 @@ without c l = filter (λ m. not (same l m)) c
 abbrev pub without_complements : Clause → Clause → Clause
 without_complements c w = filter (λ l. not (has w (negated l))) c
 
+-- c with l, unless it is there
+abbrev pub with_literal : Clause → Literal → Clause
+with_literal c l = if has c l then c else c ++ l ∷ []
+
 -- the union of c and d: c, and then each literal of d that is not there yet
 abbrev pub union : Clause → Clause → Clause
 union c [] = c
-union c (l ∷ ls) = union (if has c l then c else c ++ l ∷ []) ls
+union c (l ∷ ls) = union (with_literal c l) ls
 
 -- whether l's variable is one of a's variables
 abbrev pub names : Clause → Literal → Bool

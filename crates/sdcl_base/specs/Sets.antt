@@ -1,5 +1,5 @@
 -- Membership in a list as a fact, and clauses and formulas as sets.
-use Rattle.std.specs.Prelude.{◌≡◌, ◌⊎◌, ℕ, List, [], ◌∷◌, slice_index_or}
+use Rattle.std.specs.Prelude.{◌≡◌, ◌⊎◌, ◌≤◌, ℕ, List, [], ◌∷◌, slice_index_or}
 use Rattle.sdcl_base.specs.Literal.{Literal, Clause}
 
 -- x is an element of the list
@@ -18,3 +18,7 @@ SubClauses f g = (d : Clause) → In f d → In g d
 -- the clause at place i, or the empty one past the end
 abbrev pub clause_at : List Clause → ℕ → Clause
 clause_at f i = slice_index_or f i []
+
+-- each literal of f has a variable from 1 to n
+abbrev pub WithinVariables : ℕ → List Clause → Type 0
+WithinVariables n f = (d : Clause) (l : Literal) → In f d → In d l → (1 ≤ l.var) × (l.var ≤ n)

@@ -1,11 +1,15 @@
 //! Clauses.
 ghost use Rattle.std.specs.Prelude.{◌≡◌, ◌≤◌, true, [], All, IfOk, OnOk, length, slice_get};
+ghost use Rattle.sdcl_base.specs.Literal.{has};
 ghost use Rattle.sdcl_base.specs.Marks.{room_of, AreMarks, IsClear, firsts, no_repeats};
 
 use crate::lit::{Lit, NoMemory};
 use crate::lit_set::LitSet;
 use std::alloc::Global;
 use std::marker::Model;
+
+// The greatest number of literals that are searched one by one.
+const MOST_SEARCHED: usize = 32;
 
 /// A clause: a list of distinct literals.
 #[derive(Drop)]
@@ -42,6 +46,20 @@ impl Clause {
         Ok(Clause { lits: kept })
     }
 
+    /// The same, with no set of the caller's: a short list is searched for each literal, and a long one takes a
+    /// set for the while.
+    pub fn collect(alloc: Global, lits: &[Lit]) -> Result<Clause, NoMemory>
+        ensures ok { IfOk result (λ c. c ≡ firsts lits.now) }
+    {
+        if lits.len() > MOST_SEARCHED {
+            let mut scratch = LitSet::new(alloc, greatest_variable(lits))?;
+            return Clause::from_lits(alloc, lits, &mut scratch);
+        }
+        let mut kept = Vec::new(alloc);
+        gather(lits, &mut kept)?;
+        Ok(Clause { lits: kept })
+    }
+
     /// The literals in order.
     pub fn lits(&self) -> &[Lit]
         ensures value { result.now ≡ self.now }
@@ -56,6 +74,39 @@ impl Clause {
     {
         self.lits.first().copied()
     }
+}
+
+/// The greatest variable of the literals, or 0 where there are none.
+pub fn greatest_variable(lits: &[Lit]) -> u32
+    ensures bound { All (λ l. l.var ≤ result) lits.now }
+    ensures small { result ≤ 4194303 }
+{
+    let mut greatest = 0;
+    for l in lits {
+        greatest = greatest.max(l.var());
+    }
+    greatest
+}
+
+// Whether the literal is one of the list.
+fn has(lits: &[Lit], l: Lit) -> bool
+    ensures { result ≡ has lits.now l }
+{
+    lits.iter().any(|m| *m == l)
+}
+
+// Appends the first occurrence of each literal.
+fn gather(lits: &[Lit], kept: &mut Vec<Lit>) -> Result<(), NoMemory>
+    requires empty { kept.old.items ≡ [] }
+    ensures ok { OnOk result (kept.new.items ≡ firsts lits.now) }
+    ensures distinct { no_repeats kept.new.items ≡ true }
+{
+    for l in lits {
+        if !has(kept.as_slice(), *l) {
+            kept.push(*l).map_err(|_| NoMemory)?;
+        }
+    }
+    Ok(())
 }
 
 // Appends the first occurrence of each literal, and marks it.

@@ -12,7 +12,7 @@ pub mod store;
 mod tests;
 
 pub use assignment::Assignment;
-pub use clause::Clause;
+pub use clause::{Clause, greatest_variable};
 pub use lit::{ClauseId, Lit, MAX_VARIABLE, NoMemory};
 pub use lit_set::LitSet;
 pub use store::Store;

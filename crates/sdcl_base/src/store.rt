@@ -3,7 +3,7 @@ ghost use Rattle.std.specs.Prelude.{◌≡◌, ◌≤◌, ◌<◌, ◌+◌, true
 ghost use Rattle.sdcl_base.specs.Marks.{room_of, IsClear, firsts, no_repeats};
 ghost use Rattle.sdcl_base.specs.Sets.{clause_at};
 
-use crate::clause::Clause;
+use crate::clause::{Clause, greatest_variable};
 use crate::lit::{ClauseId, Lit, MAX_VARIABLE, NoMemory};
 use crate::lit_set::LitSet;
 use std::alloc::Global;
@@ -71,18 +71,6 @@ impl Store {
     {
         self.clauses[id.0 as usize].lits()
     }
-}
-
-// The greatest variable of the literals, or 0.
-fn greatest_variable(lits: &[Lit]) -> u32
-    ensures bound { All (λ l. l.var ≤ result) lits.now }
-    ensures small { result ≤ 4194303 }
-{
-    let mut greatest = 0;
-    for l in lits {
-        greatest = greatest.max(l.var());
-    }
-    greatest
 }
 
 // An empty set that covers the variables: the one that is kept, or a larger one.

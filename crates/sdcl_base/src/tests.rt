@@ -1,5 +1,5 @@
 //! Each call once, against values that were worked out by hand.
-use crate::{Assignment, Clause, ClauseId, Lit, LitSet, Store};
+use crate::{Assignment, Clause, ClauseId, Lit, LitSet, Store, greatest_variable};
 use std::test::Fail;
 
 fn lit(number: i64) -> Result<Lit, Fail> {
@@ -91,5 +91,21 @@ fn a_store_names_clauses_in_order(rt: HostRuntime) -> Result<(), Fail> {
     assert_eq!(rt; store.literals(ClauseId(0)), [one, two].as_slice());
     assert_eq!(rt; store.literals(ClauseId(1)), [one.negated()].as_slice());
     assert!(rt; store.literals(ClauseId(2)).is_empty());
+    Ok(())
+}
+
+#[test]
+fn a_clause_needs_no_set_of_the_callers(rt: HostRuntime) -> Result<(), Fail> {
+    let (three, minus_two) = (lit(3)?, lit(-2)?);
+    let short = Clause::collect(rt.alloc(), &[three, minus_two, three, minus_two])?;
+    assert_eq!(rt; short.lits(), [three, minus_two].as_slice());
+    let mut long = [three; 40];
+    long[20] = minus_two;
+    long[39] = lit(7)?;
+    let clause = Clause::collect(rt.alloc(), &long)?;
+    assert_eq!(rt; clause.lits(), [three, minus_two, lit(7)?].as_slice());
+    assert_eq!(rt; Clause::collect(rt.alloc(), &[])?.first(), None);
+    assert_eq!(rt; greatest_variable(&long), 7);
+    assert_eq!(rt; greatest_variable(&[]), 0);
     Ok(())
 }

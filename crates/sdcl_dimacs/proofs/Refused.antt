@@ -15,9 +15,9 @@ use Rattle.sdcl_dimacs.specs.Faults.{kind_code, error_of_byte}
 use Rattle.sdcl_dimacs.specs.Taking.{closed_from, closed_by, HasAllButOne, AfterFault, AfterFaultOf, AfterReadFault, AfterNoMemory, StandsAfter}
 use Rattle.sdcl_dimacs.specs.FormulaText.{FormulaText, FormulaFault}
 use Rattle.sdcl_dimacs.specs.Judging.{Progress, Verdict, Next, Answer, IsJudged, due_after, judge_due, judge_token, judge_last, judge, judge_at, end_of, ending}
-use Rattle.sdcl_dimacs.specs.Scan.{Scan, scan_byte, completes, is_in_word}
-use Rattle.sdcl_dimacs.specs.declared.scanner.Place.{Place}
-use Rattle.sdcl_dimacs.specs.declared.scanner.Place.TheVariants.{LineStart, Between, InWord, Skipping}
+use Rattle.sdcl_io.specs.Scan.{Scan, scan_byte, completes, is_in_word}
+use Rattle.sdcl_io.specs.declared.scanner.Place.{Place}
+use Rattle.sdcl_io.specs.declared.scanner.Place.TheVariants.{LineStart, Between, InWord, Skipping}
 use Rattle.sdcl_dimacs.specs.declared.fault.FormulaError.{FormulaError}
 use Rattle.sdcl_dimacs.specs.declared.fault.FormulaError.TheVariants as error
 use Rattle.sdcl_dimacs.specs.declared.fault.FormulaKind.{FormulaKind}
@@ -25,9 +25,9 @@ use Rattle.sdcl_dimacs.specs.declared.parser.Header.{Header}
 use Rattle.sdcl_dimacs.specs.declared.parser.Due.{Due}
 use Rattle.sdcl_dimacs.specs.declared.parser.Due.TheVariants.{InHeader, InClauses}
 use Rattle.sdcl_dimacs.proofs.Judged.{judge_kept}
-use Rattle.sdcl_dimacs.proofs.Telling.{keeps}
+use Rattle.sdcl_io.proofs.Counting.{keeps}
 use Rattle.sdcl_dimacs.proofs.Taking.{Took, TookOf, is_before, closed_word, closed_answer, kept_verdict}
-use Rattle.sdcl_dimacs.proofs.Following.{a_word, follow, follow_at, follow_step, word_with, OpenAt, append_nil}
+use Rattle.sdcl_io.proofs.Following.{a_word, follow, follow_at, follow_step, word_with, OpenAt, append_nil}
 
 abbrev OneMore : Verdict → List Clause → Type 0
 OneMore (Next q) closed = HasAllButOne closed q.closed

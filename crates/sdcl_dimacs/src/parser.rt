@@ -6,8 +6,8 @@ ghost use Rattle.sdcl_dimacs.specs.Within.{Fits, FitsClauses, IsFormula};
 ghost use Rattle.sdcl_dimacs.specs.declared.fault.FormulaError.{FormulaError};
 
 use crate::fault::{FormulaError, FormulaFault, FormulaKind};
-use crate::token::{Token, begins_with, number, token_of};
 use sdcl_base::{Lit, Store};
+use sdcl_io::{Token, begins_with, literal_of, number, token_of};
 use std::alloc::Global;
 
 /// The most variables and the most clauses of a formula.
@@ -170,19 +170,6 @@ fn count(word: &[u8], most: u32, above: FormulaKind) -> Result<u32, FormulaKind>
         None => Err(FormulaKind::BadHeader),
         Some(value) if value > u64::from(most) => Err(above),
         Some(value) => Ok(value as u32),
-    }
-}
-
-// The literal of a variable and a sign.
-fn literal_of(var: u64, positive: bool) -> Lit
-    requires low { 1 ≤ var }
-    requires high { var ≤ 4194303 }
-    ensures { result ≡ record { var = var; positive = positive } }
-{
-    let number = var as i64;
-    match Lit::from_number(if positive { number } else { -number }) {
-        Some(literal) => literal,
-        None => unreachable!(),
     }
 }
 

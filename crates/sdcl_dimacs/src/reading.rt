@@ -11,9 +11,8 @@ ghost use Rattle.sdcl_dimacs.specs.declared.fault.FormulaError.{FormulaError};
 
 use crate::fault::FormulaError;
 use crate::parser::{Header, Parser};
-use crate::scanner::Scanner;
 use sdcl_base::Store;
-use sdcl_io::{Reader, World};
+use sdcl_io::{Reader, Scanner, World};
 use std::alloc::Global;
 
 /// Reads a formula in DIMACS CNF from the input that the reader stands at the start of, and puts its

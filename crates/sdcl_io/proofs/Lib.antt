@@ -2,4 +2,10 @@ pub mod Held
 pub mod Taken
 pub mod Wrote
 pub mod Judging
+pub mod Numbers
+pub mod Scanning
+pub mod Following
+pub mod Counting
+pub mod Advancing
+pub mod Onward
 pub mod Refuted

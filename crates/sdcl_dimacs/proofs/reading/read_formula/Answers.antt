@@ -1,11 +1,11 @@
 use Rattle.std.proofs.Common.{rules, refl, ◌≡◌, ◌<◌, ◌∙◌, sym, ap, Some, None, Ok, Err, true, false}
 use Rattle.sdcl_io.specs.Readers.{reading}
 use Rattle.sdcl_io.specs.Reading.{IsNext, HasMore}
-use Rattle.sdcl_dimacs.specs.Scans.{scan_of}
-use Rattle.sdcl_dimacs.specs.Scan.{completes, is_in_word}
+use Rattle.sdcl_io.specs.Scans.{scan_of}
+use Rattle.sdcl_io.specs.Scan.{completes, is_in_word}
 use Rattle.sdcl_dimacs.specs.Parsers.{progress_of}
 use Rattle.sdcl_dimacs.specs.Judging.{IsJudged, Answer, judge, end_of, ending}
-use Rattle.sdcl_dimacs.proofs.Onward.{onward_on}
+use Rattle.sdcl_io.proofs.Onward.{onward_on}
 use Rattle.sdcl_dimacs.proofs.Taking.{TookOf, took_start, took_word, took_no_word, took_percent}
 use Rattle.sdcl_dimacs.proofs.Refused.{refused_by, refused_word_by, refused_last_by, refused_end, refused_behind}
 use Rattle.sdcl_dimacs.proofs.Telling.{leads_start, no_word_on, word_on, no_byte_answers}

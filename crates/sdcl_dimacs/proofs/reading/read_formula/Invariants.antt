@@ -1,7 +1,7 @@
 use Rattle.std.proofs.Common.{◌≡◌, None, ◌-◌}
 use Rattle.sdcl_io.specs.Reading.{Onward}
 use Rattle.sdcl_io.specs.Readers.{reading}
-use Rattle.sdcl_dimacs.specs.Scans.{scan_of}
+use Rattle.sdcl_io.specs.Scans.{scan_of}
 use Rattle.sdcl_dimacs.specs.Parsers.{progress_of}
 use Rattle.sdcl_dimacs.specs.Within.{Fits}
 use Rattle.sdcl_dimacs.proofs.Taking.{TookOf}

@@ -1,6 +1,7 @@
 use Rattle.std.proofs.Common.{rules, arith, subst, sym, ap, length, ◌≡◌, ◌++◌, ◌∷◌, [], length-append}
 use Rattle.sdcl_base.specs.Marks.{firsts}
-use Rattle.sdcl_dimacs.specs.Within.{ClauseWithin, WithinVariables}
+use Rattle.sdcl_dimacs.specs.Within.{ClauseWithin}
+use Rattle.sdcl_base.specs.Sets.{WithinVariables}
 use Rattle.sdcl_dimacs.proofs.Fitting.{within_more, part_more}
 use Rattle.sdcl_dimacs.proofs.parser.Parser.take_literal.Goals as goal
 

@@ -1,6 +1,6 @@
 use Rattle.std.proofs.Common.{ℕ, ◌≤◌, ◌<◌, get_or}
 use Rattle.sdcl_base.specs.Literal.{Literal}
-use Rattle.sdcl_base.proofs.store.greatest_variable.Given as goal
+use Rattle.sdcl_base.proofs.clause.greatest_variable.Given as goal
 
 abbrev pub invariant-loop-l : goal.invariant-loop-l
 invariant-loop-l l = record {
