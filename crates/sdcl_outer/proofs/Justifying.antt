@@ -4,14 +4,13 @@ use Rattle.std.specs.List.{list_any, flat_map}
 use Rattle.std.proofs.lemmas.Bool.{or_cases, or_left, or_right, true≢false, false≢true, false_from_ne_true}
 use Rattle.sdcl_base.specs.Literal.{Literal, Clause, pos_lit, negated, has, has_pair, names}
 use Rattle.sdcl_base.specs.Truth.{meets, meets_clause, makes_true}
-use Rattle.sdcl_base.specs.Sets.{In, Sub, SubClauses}
+use Rattle.sdcl_base.specs.Sets.{In, Sub, SubClauses, WithinVariables}
 use Rattle.sdcl_base.specs.Propagation.{closure, refutes, conflicting, falsified, forced, next}
 use Rattle.sdcl_base.proofs.In.{in_append_left, in_append_right, in_union_right, in_union_cases, in_flat_map, in_flat_map_from, all_in, all_from, any_in, any_from, has_in, in_has}
 use Rattle.sdcl_base.proofs.Closure.{closure_least, closure_holds, closure_closed, closure_more, next_more_sets, sets_from_clauses, same_clauses}
 use Rattle.sdcl_base.proofs.Models.{model_meets}
 use Rattle.sdcl_outer.specs.Levels.{Levels, literals, decisions, value_in, Apart, pushed, undone}
 use Rattle.sdcl_outer.specs.Scanning.{Justified, IsQuiet, IsSettled, IsModel, Grows}
-use Rattle.sdcl_outer.specs.Within.{WithinVariables}
 use Rattle.sdcl_outer.specs.declared.entry.Entry.{Entry}
 use Rattle.sdcl_outer.proofs.Trails.{decisions_in, value_of_in, differ}
 use Rattle.sdcl_outer.proofs.Looking.{in_value, consistent, literal}

@@ -14,11 +14,10 @@ use Rattle.sdcl_io.proofs.Judging.{valid_verified}
 use Rattle.sdcl_outer.specs.Outcome.{is_plain, AreRefuted, Breaks, AddsNew, NewSteps}
 use Rattle.sdcl_outer.specs.Telling.{IsTold, MayBeTold}
 use Rattle.sdcl_base.specs.Literal.{Literal, Clause, negated, has, union, complements}
-use Rattle.sdcl_base.specs.Sets.{In}
+use Rattle.sdcl_base.specs.Sets.{In, WithinVariables}
 use Rattle.sdcl_base.specs.Marks.{firsts, no_repeats}
 use Rattle.sdcl_base.proofs.In.{in_append_left, in_append_right, in_append_cases, in_map_from, in_has, has_in}
 use Rattle.sdcl_outer.specs.Levels.{decisions, Within}
-use Rattle.sdcl_outer.specs.Within.{WithinVariables}
 use Rattle.sdcl_outer.specs.declared.entry.Entry.{Entry}
 use Rattle.sdcl_outer.proofs.Trails.{decisions_in}
 

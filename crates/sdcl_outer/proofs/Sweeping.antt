@@ -1,12 +1,11 @@
 -- A pass over the clauses, up to a place.
 use Rattle.std.proofs.Common.{◌≡◌, ◌<◌, ◌≤◌, ◌+◌, ℕ, false, List, [], length, take, refl, sym, subst, arith, inl, inr}
 use Rattle.sdcl_base.specs.Literal.{Literal, Clause}
-use Rattle.sdcl_base.specs.Sets.{In, clause_at}
+use Rattle.sdcl_base.specs.Sets.{In, clause_at, WithinVariables}
 use Rattle.sdcl_base.specs.Propagation.{forces, forced}
 use Rattle.sdcl_base.proofs.In.{in_filter_from}
 use Rattle.sdcl_outer.specs.Levels.{Levels, literals, pushed}
 use Rattle.sdcl_outer.specs.Scanning.{Grows, IsQuiet}
-use Rattle.sdcl_outer.specs.Within.{WithinVariables}
 use Rattle.sdcl_outer.proofs.Looking.{in_get, same_get, in_more_cases}
 use Rattle.sdcl_outer.proofs.Justifying.{grows_forced}
 

@@ -1,5 +1,4 @@
 pub mod Levels
-pub mod Within
 pub mod Scanning
 pub mod Errors
 pub mod Telling

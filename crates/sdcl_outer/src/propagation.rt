@@ -2,11 +2,10 @@
 ghost use Rattle.std.specs.Prelude.{◌≡◌, ◌⊎◌, ◌≤◌, true, false, length};
 ghost use Rattle.sdcl_base.specs.Marks.{no_repeats};
 ghost use Rattle.sdcl_base.specs.Literal.{Literal};
-ghost use Rattle.sdcl_base.specs.Sets.{In};
+ghost use Rattle.sdcl_base.specs.Sets.{In, WithinVariables};
 ghost use Rattle.sdcl_base.specs.Propagation.{refutes};
 ghost use Rattle.sdcl_outer.specs.Levels.{decisions, IsSound};
 ghost use Rattle.sdcl_outer.specs.Scanning.{Justified, Chosen, IsModel, IsSettled, Grows, Swept, Found};
-ghost use Rattle.sdcl_outer.specs.Within.{WithinVariables};
 
 use crate::trail::Trail;
 use sdcl_base::{ClauseId, Lit, Store};

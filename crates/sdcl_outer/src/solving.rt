@@ -6,7 +6,7 @@ ghost use Rattle.sdcl_io.specs.Step.{Add};
 ghost use Rattle.sdcl_outer.specs.Levels.{decisions};
 ghost use Rattle.sdcl_outer.specs.Telling.{IsTold, MayBeTold};
 ghost use Rattle.sdcl_outer.specs.Outcome.{Answers, Breaks};
-ghost use Rattle.sdcl_outer.specs.Within.{WithinVariables};
+ghost use Rattle.sdcl_base.specs.Sets.{WithinVariables};
 ghost use Rattle.sdcl_outer.specs.Errors.{error_of};
 
 use crate::propagation::descend;

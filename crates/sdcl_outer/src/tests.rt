@@ -2,7 +2,7 @@
 //! are the steps.
 ghost use Rattle.std.specs.Prelude.{◌≤◌, ◌<◌, IfOk, IfSome, IsErrOf, length};
 ghost use Rattle.sdcl_io.specs.World.{Rose};
-ghost use Rattle.sdcl_outer.specs.Within.{WithinVariables};
+ghost use Rattle.sdcl_base.specs.Sets.{WithinVariables};
 
 use crate::{Answer, Options, SolveError, solve};
 use sdcl_base::{Lit, NoMemory, Store};

@@ -1,5 +1,5 @@
 use Rattle.std.proofs.Common.{◌≡◌, ◌∙◌, sym, ap, subst}
-use Rattle.sdcl_outer.specs.Within.{WithinVariables}
+use Rattle.sdcl_base.specs.Sets.{WithinVariables}
 use Rattle.sdcl_outer.proofs.Justifying.{settled_model, decided_justified}
 use Rattle.sdcl_outer.proofs.Choosing.{chosen_more}
 use Rattle.sdcl_outer.proofs.propagation.descend.Goals as goal

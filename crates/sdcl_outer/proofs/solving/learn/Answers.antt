@@ -2,7 +2,7 @@ use Rattle.std.proofs.Common.{◌≡◌, ◌∙◌, ◌∷◌, ◌++◌, [], sym
 use Rattle.sdcl_base.specs.Literal.{Clause, complements}
 use Rattle.sdcl_base.specs.Marks.{firsts, no_repeats}
 use Rattle.sdcl_outer.specs.Levels.{decisions}
-use Rattle.sdcl_outer.specs.Within.{WithinVariables}
+use Rattle.sdcl_base.specs.Sets.{WithinVariables}
 use Rattle.sdcl_outer.proofs.Learning.{firsts_distinct, within_more}
 use Rattle.sdcl_outer.proofs.solving.learn.Goals as goal
 

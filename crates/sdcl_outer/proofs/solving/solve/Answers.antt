@@ -7,7 +7,7 @@ use Rattle.sdcl_io.specs.Step.{Add}
 use Rattle.sdcl_outer.specs.Levels.{Levels, decisions, value_in, Within}
 use Rattle.sdcl_outer.specs.Outcome.{Breaks, AreRefuted, IsNewClause}
 use Rattle.sdcl_outer.specs.Scanning.{Justified, Chosen, IsModel}
-use Rattle.sdcl_outer.specs.Within.{WithinVariables}
+use Rattle.sdcl_base.specs.Sets.{WithinVariables}
 use Rattle.sdcl_outer.proofs.Justifying.{learned_justified, meets_same}
 use Rattle.sdcl_outer.proofs.Choosing.{learned_chosen, learned_new, are_decisions}
 use Rattle.sdcl_outer.proofs.Learning.{steps_of, steps_more, learned_none, learned_more, told_start, told_on, new_start, new_more, on_err, breaks_at_start, breaks_torn, breaks_learning, valid_more, valid_refuted, ends_spent, ends_verified, meets_less}

@@ -1,6 +1,6 @@
 use Rattle.std.proofs.Common.{◌≡◌, ◌≤◌, ◌+◌, ◌-◌, length, None}
 use Rattle.sdcl_outer.specs.Scanning.{Justified, Chosen}
-use Rattle.sdcl_outer.specs.Within.{WithinVariables}
+use Rattle.sdcl_base.specs.Sets.{WithinVariables}
 use Rattle.sdcl_outer.specs.Outcome.{NewSteps}
 use Rattle.sdcl_outer.specs.Telling.{IsTold}
 use Rattle.sdcl_outer.proofs.Learning.{Learned, steps_of}

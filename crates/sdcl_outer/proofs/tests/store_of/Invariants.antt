@@ -1,7 +1,6 @@
 use Rattle.std.proofs.Common.{◌≤◌, length}
 use Rattle.sdcl_base.specs.Literal.{Literal}
-use Rattle.sdcl_base.specs.Sets.{In}
-use Rattle.sdcl_outer.specs.Within.{WithinVariables}
+use Rattle.sdcl_base.specs.Sets.{In, WithinVariables}
 use Rattle.sdcl_outer.proofs.tests.store_of.Given as goal
 
 abbrev pub invariant-loop-n : goal.invariant-loop-n
