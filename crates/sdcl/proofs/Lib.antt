@@ -1,4 +1,11 @@
 pub mod Values
+pub mod Copying
+pub mod Reading
 pub mod Phases
+pub mod Roles
+pub mod Printed
+pub mod Making
+pub mod Solved
+pub mod Checked
 pub mod Ending
 pub mod Completing

@@ -4,5 +4,9 @@ pub mod Codes
 pub mod Refusals
 pub mod Loading
 pub mod Proving
+pub mod Judging
 pub mod Printing
+pub mod Starting
+pub mod Solving
+pub mod Checking
 pub mod Running

@@ -2,11 +2,12 @@
 use Rattle.std.specs.Prelude.{◌≡◌, ◌≤◌, ⊤, ℕ, List, ◌++◌, length, Option, None, Some, IsTrue, Result, OnOk, IfOk, IfErr}
 use Rattle.sdcl_base.specs.Literal.{Clause}
 use Rattle.sdcl_io.specs.declared.world.InRole.TheVariants.{Formula}
-use Rattle.sdcl_io.specs.World.{Seen, OnlyRead, Rose, Calm}
+use Rattle.sdcl_io.specs.declared.world.InRole.TheVariants as input
+use Rattle.sdcl_io.specs.World.{Seen, OnlyRead, Rose}
 use Rattle.sdcl_dimacs.specs.FormulaText.{FormulaText, Accepted, FormulaFault, FormulaOver}
 use Rattle.sdcl_dimacs.specs.Faults.{kind_code}
 use Rattle.sdcl_dimacs.specs.FormulaText.{formula_text}
-use Rattle.sdcl_dimacs.specs.Within.{WithinVariables}
+use Rattle.sdcl_base.specs.Sets.{WithinVariables}
 use Rattle.sdcl_dimacs.specs.Taking.{TakenToEnd}
 use Rattle.sdcl.specs.declared.loading.Loaded.{Loaded}
 use Rattle.sdcl.specs.declared.refusal.Place.TheVariants as place
@@ -45,14 +46,17 @@ pub record IsLoaded (name : List ℕ) (s : Seen) (variables : ℕ) (f : List Cla
 -- why the formula was not read
 abbrev pub LoadCause : List ℕ → Seen → Seen → Refusal → Type 0
 LoadCause name s t refusal.Usage = ⊥
-LoadCause name s t (refusal.Grammar fault) = StandsFor (s.file name) (FormulaFault fault.offset (kind_code fault.kind))
+LoadCause name s t (refusal.FormulaGrammar fault) = StandsFor (s.file name) (FormulaFault fault.offset (kind_code fault.kind))
+LoadCause name s t (refusal.ProofGrammar fault) = ⊥
 LoadCause name s t (refusal.Open place.Formula) = Rose (s.open_faults Formula name) (t.open_faults Formula name)
 LoadCause name s t (refusal.Open place.Proof) = ⊥
 LoadCause name s t (refusal.Open place.Out) = ⊥
-LoadCause name s t refusal.Read = Rose (s.read_faults Formula) (t.read_faults Formula)
+LoadCause name s t (refusal.Read input.Formula) = Rose (s.read_faults Formula) (t.read_faults Formula)
+LoadCause name s t (refusal.Read input.Proof) = ⊥
 LoadCause name s t (refusal.Write where') = ⊥
 LoadCause name s t refusal.Memory = ⊤
-LoadCause name s t refusal.Over = StandsFor (s.file name) FormulaOver
+LoadCause name s t (refusal.Over input.Formula) = StandsFor (s.file name) FormulaOver
+LoadCause name s t (refusal.Over input.Proof) = ⊥
 
 pub record Loads (name : List ℕ) (s t : Seen) (result : Result Loaded Refusal) : Type 0 where
   pub only : OnlyRead Formula s t

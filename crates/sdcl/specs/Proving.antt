@@ -1,10 +1,10 @@
 -- What the solving and the writing of the proof did.
-use Rattle.std.specs.Prelude.{◌≡◌, ⊤, ℕ, true, List, Option, None, Some, IfSome, IsTrue, Result, IfOk, IfErr}
+use Rattle.std.specs.Prelude.{◌≡◌, ℕ, true, List, Option, None, Some, IfSome, IsTrue, Result, IfOk, IfErr}
 use Rattle.sdcl_base.specs.Literal.{Clause}
 use Rattle.sdcl_io.specs.declared.world.InRole.{InRole}
 use Rattle.sdcl_io.specs.declared.world.OutRole.{OutRole}
 use Rattle.sdcl_io.specs.declared.world.OutRole.TheVariants.{Proof}
-use Rattle.sdcl_io.specs.World.{Seen, Later, Calm, Rose}
+use Rattle.sdcl_io.specs.World.{Seen, Later, Rose}
 use Rattle.sdcl_io.specs.Step.{Step, All, apply_all, valid, ValidSteps}
 use Rattle.sdcl_proof.specs.Files.{HoldsSteps}
 use Rattle.sdcl_outer.specs.Outcome.{Ends as Concludes, NewSteps}
@@ -32,16 +32,17 @@ IsProved variables budget f t answer = (steps : List Step) × ValidSteps f steps
 -- why there is no answer
 abbrev pub ProveCause : List ℕ → List Clause → Seen → Seen → Refusal → Type 0
 ProveCause name f s t refusal.Usage = ⊥
-ProveCause name f s t (refusal.Grammar fault) = ⊥
+ProveCause name f s t (refusal.FormulaGrammar fault) = ⊥
+ProveCause name f s t (refusal.ProofGrammar fault) = ⊥
 ProveCause name f s t (refusal.Open place.Formula) = ⊥
 ProveCause name f s t (refusal.Open place.Proof) = Rose (s.create_faults Proof name) (t.create_faults Proof name) × (t.is_there Proof ≡ s.is_there Proof)
 ProveCause name f s t (refusal.Open place.Out) = ⊥
-ProveCause name f s t refusal.Read = ⊥
+ProveCause name f s t (refusal.Read role) = ⊥
 ProveCause name f s t (refusal.Write place.Formula) = ⊥
 ProveCause name f s t (refusal.Write place.Proof) = Rose (s.write_faults Proof) (t.write_faults Proof) × HoldsLawful f t
 ProveCause name f s t (refusal.Write place.Out) = ⊥
 ProveCause name f s t refusal.Memory = (IsTrue (s.is_there Proof) → ⊥) → HoldsLawful f t
-ProveCause name f s t refusal.Over = ⊥
+ProveCause name f s t (refusal.Over role) = ⊥
 
 pub record Proves (name : List ℕ) (variables budget : ℕ) (f : List Clause) (s t : Seen) (result : Result Answer Refusal) : Type 0 where
   pub only : OnlyProof name s t

@@ -1,16 +1,29 @@
 //! The words of a command.
-ghost use Rattle.std.specs.Prelude.{◌≡◌, MatchOption, Some, None, string_bytes};
-ghost use Rattle.sdcl.specs.Commands.{names_of};
+ghost use Rattle.std.specs.Prelude.{◌≡◌, MatchOption, IfSome, Some, None, string_bytes};
+ghost use Rattle.sdcl.specs.Commands.{plan_of, plan_in, AreApart};
 
-/// The files of `solve` and two different names.
-pub fn solve_names(words: &[String]) -> Option<(&str, &str)>
-    ensures { MatchOption result (names_of words.now ≡ None) (λ names. (names_of words.now ≡ Some (record { formula = names.0.now; proof = names.1.now })) × (names.0.now ≡ names.1.now → ⊥)) }
+/// What a run is to do, and to which files.
+#[derive(Clone, Copy, Debug, PartialEq, Eq)]
+pub enum Command<'w> {
+    /// Solve the formula, and write the proof.
+    Solve { formula: &'w str, proof: &'w str },
+    /// Check the proof of the formula.
+    Check { formula: &'w str, proof: &'w str },
+}
+
+/// The command that the words are: `solve` and two different names, or `check` and two names.
+pub fn command_of(words: &[String]) -> Option<Command<'_>>
+    ensures plan { MatchOption result (plan_of words.now ≡ None) (λ c. plan_of words.now ≡ Some (plan_in c)) }
+    ensures apart { IfSome result (λ c. AreApart (plan_in c)) }
 {
     let [command, formula, proof] = words else {
         return None;
     };
-    if command.as_str() != "solve" || formula.as_str() == proof.as_str() {
-        return None;
+    let formula = formula.as_str();
+    let proof = proof.as_str();
+    match command.as_str() {
+        "solve" if formula != proof => Some(Command::Solve { formula, proof }),
+        "check" => Some(Command::Check { formula, proof }),
+        _ => None,
     }
-    Some((formula.as_str(), proof.as_str()))
 }

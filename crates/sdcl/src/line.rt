@@ -1,6 +1,7 @@
 //! A short line of text that takes no memory.
-ghost use Rattle.std.specs.Prelude.{◌≡◌, ◌≤◌, ◌+◌, ◌++◌, length};
+ghost use Rattle.std.specs.Prelude.{◌≡◌, ◌≤◌, ◌+◌, ◌++◌, decimal, length};
 
+use itoa::Buffer;
 use std::marker::Model;
 
 /// At most 80 bytes.
@@ -43,6 +44,15 @@ impl Line {
         let len = self.len + piece.len();
         bytes[self.len..len].copy_from_slice(piece);
         Line { bytes, len }
+    }
+
+    /// The line with a number more, of at most 20 digits.
+    pub fn and_number(self, number: u64) -> Line
+        requires { length self ≤ 60 }
+        ensures text { result ≡ self ++ decimal number }
+        ensures bound { length result ≤ length self + 20 }
+    {
+        self.and(Buffer::new().format(number).as_bytes())
     }
 
     /// The bytes of the line.

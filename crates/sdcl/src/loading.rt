@@ -39,9 +39,9 @@ pub fn load<W: World>(alloc: Global, world: &mut W, name: &str) -> Result<Loaded
             variables: header.variables,
             store,
         }),
-        Err(FormulaError::Grammar(fault)) => Err(Refusal::Grammar(fault)),
-        Err(FormulaError::ReadFault) => Err(Refusal::Read),
-        Err(FormulaError::TooLong) => Err(Refusal::Over),
+        Err(FormulaError::Grammar(fault)) => Err(Refusal::FormulaGrammar(fault)),
+        Err(FormulaError::ReadFault) => Err(Refusal::Read(InRole::Formula)),
+        Err(FormulaError::TooLong) => Err(Refusal::Over(InRole::Formula)),
         Err(FormulaError::NoMemory) => Err(Refusal::Memory),
     }
 }

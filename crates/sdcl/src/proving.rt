@@ -4,7 +4,7 @@ ghost use Rattle.sdcl_io.specs.declared.world.OutRole.TheVariants.{Proof};
 ghost use Rattle.sdcl_io.specs.World.{Rose};
 ghost use Rattle.sdcl_io.specs.Step.{Step, All, apply_all, valid, ValidSteps};
 ghost use Rattle.sdcl_proof.specs.Files.{Onward, HoldsSteps};
-ghost use Rattle.sdcl_outer.specs.Within.{WithinVariables};
+ghost use Rattle.sdcl_base.specs.Sets.{WithinVariables};
 ghost use Rattle.sdcl_outer.specs.Outcome.{Ends as Concludes, NewSteps};
 ghost use Rattle.sdcl.specs.Proving.{Proves};
 

@@ -2,14 +2,15 @@
 ghost use Rattle.std.specs.Prelude.{◌≡◌, ◌⊎◌, ◌≤◌, ◌+◌, ◌++◌, IsTrue, IsErrOf, codes, decimal, length};
 ghost use Rattle.sdcl_io.specs.World.{OnlyWrote, Calm};
 ghost use Rattle.sdcl_io.specs.declared.world.OutRole.TheVariants as output;
-ghost use Rattle.sdcl_dimacs.specs.Faults.{kind_code};
-ghost use Rattle.sdcl.specs.Refusals.{status_of, place_name, refusal_line, Complains};
+ghost use Rattle.sdcl_dimacs.specs.Faults.{kind_code as formula_code};
+ghost use Rattle.sdcl_proof.specs.Faults.{kind_code as proof_code};
+ghost use Rattle.sdcl.specs.Refusals.{status_of, place_name, place_of, refusal_line, Complains};
 
 use crate::line::Line;
 use crate::status::Status;
-use itoa::Buffer;
 use sdcl_dimacs::FormulaFault;
-use sdcl_io::{Failed, OutRole, World, write_all};
+use sdcl_io::{Failed, InRole, OutRole, World, write_all};
+use sdcl_proof::ProofFault;
 
 /// A file or stream of a run, by its name in messages.
 #[derive(Clone, Copy, Debug, PartialEq, Eq)]
@@ -19,16 +20,37 @@ pub enum Place {
     Out,
 }
 
+impl Place {
+    /// The file that an input of this role reads.
+    pub fn of(role: InRole) -> Place
+        ensures { result ≡ place_of role }
+    {
+        match role {
+            InRole::Formula => Place::Formula,
+            InRole::Proof => Place::Proof,
+        }
+    }
+}
+
 /// Why a run ends without a verdict.
 #[derive(Clone, Copy, Debug, PartialEq, Eq)]
 pub enum Refusal {
+    /// The words name no command.
     Usage,
-    Grammar(FormulaFault),
+    /// The formula's text has a fault.
+    FormulaGrammar(FormulaFault),
+    /// The proof's text has a fault.
+    ProofGrammar(ProofFault),
+    /// A file could not be opened or created.
     Open(Place),
-    Read,
+    /// A file could not be read.
+    Read(InRole),
+    /// A file or standard output could not be written.
     Write(Place),
+    /// Memory was not found.
     Memory,
-    Over,
+    /// A file's text is over its limit.
+    Over(InRole),
 }
 
 impl Refusal {
@@ -38,12 +60,13 @@ impl Refusal {
     {
         match self {
             Refusal::Usage => Status::Usage,
-            Refusal::Grammar(_) => Status::Grammar,
+            Refusal::FormulaGrammar(_) => Status::Grammar,
+            Refusal::ProofGrammar(_) => Status::Grammar,
             Refusal::Open(_) => Status::OpenFault,
-            Refusal::Read => Status::ReadFault,
+            Refusal::Read(_) => Status::ReadFault,
             Refusal::Write(_) => Status::WriteFault,
             Refusal::Memory => Status::Memory,
-            Refusal::Over => Status::Limit,
+            Refusal::Over(_) => Status::Limit,
         }
     }
 
@@ -53,12 +76,14 @@ impl Refusal {
     {
         match self {
             Refusal::Usage => Line::of(b"sdcl: usage\n"),
-            Refusal::Grammar(fault) => fault_line(fault),
+            Refusal::FormulaGrammar(fault) => formula_line(fault),
+            Refusal::ProofGrammar(fault) => proof_line(fault),
             Refusal::Open(place) => place_line(b"sdcl: open fault ", place),
-            Refusal::Read => Line::of(b"sdcl: read fault formula\n"),
+            Refusal::Read(role) => place_line(b"sdcl: read fault ", Place::of(role)),
             Refusal::Write(place) => place_line(b"sdcl: write fault ", place),
             Refusal::Memory => Line::of(b"sdcl: out of memory\n"),
-            Refusal::Over => Line::of(b"sdcl: formula over 134217728 bytes\n"),
+            Refusal::Over(InRole::Formula) => Line::of(b"sdcl: formula over 134217728 bytes\n"),
+            Refusal::Over(InRole::Proof) => Line::of(b"sdcl: proof over 536870912 bytes\n"),
         }
     }
 }
@@ -75,23 +100,18 @@ fn place_line(before: &[u8], place: Place) -> Line
     Line::of(before).and(name).and(b"\n")
 }
 
-fn fault_line(fault: FormulaFault) -> Line
-    ensures { result ≡ codes "sdcl: formula fault " ++ decimal (kind_code fault.kind) ++ codes " at " ++ decimal fault.offset ++ codes "\n" }
+fn formula_line(fault: FormulaFault) -> Line
+    ensures { result ≡ codes "sdcl: formula fault " ++ decimal (formula_code fault.kind) ++ codes " at " ++ decimal fault.offset ++ codes "\n" }
 {
-    let line = with_number(
-        Line::of(b"sdcl: formula fault "),
-        u64::from(fault.kind.code()),
-    )
-    .and(b" at ");
-    with_number(line, fault.offset).and(b"\n")
+    let line = Line::of(b"sdcl: formula fault ").and_number(u64::from(fault.kind.code()));
+    line.and(b" at ").and_number(fault.offset).and(b"\n")
 }
 
-fn with_number(line: Line, number: u64) -> Line
-    requires { length line ≤ 50 }
-    ensures text { result ≡ line ++ decimal number }
-    ensures bound { length result ≤ length line + 20 }
+fn proof_line(fault: ProofFault) -> Line
+    ensures { result ≡ codes "sdcl: proof fault " ++ decimal (proof_code fault.kind) ++ codes " at " ++ decimal fault.offset ++ codes "\n" }
 {
-    line.and(Buffer::new().format(number).as_bytes())
+    let line = Line::of(b"sdcl: proof fault ").and_number(u64::from(fault.kind.code()));
+    line.and(b" at ").and_number(fault.offset).and(b"\n")
 }
 
 /// Says on standard error why the run ends, and answers its status. Where memory is wanted for the saying,

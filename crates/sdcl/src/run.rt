@@ -1,12 +1,14 @@
 //! The whole program, over any world.
 ghost use Rattle.std.specs.Prelude.{◌≡◌, IsTrue, string_bytes};
 ghost use Rattle.sdcl_io.specs.declared.world.OutRole.TheVariants as output;
-ghost use Rattle.sdcl.specs.Commands.{names_of};
-ghost use Rattle.sdcl.specs.Running.{Completes, IsFresh, Attempts, Performs, Runs, Texts};
+ghost use Rattle.sdcl.specs.Commands.{Solve, Check, plan_of, plan_in, AreApart};
+ghost use Rattle.sdcl.specs.Starting.{IsFresh};
+ghost use Rattle.sdcl.specs.Running.{Completes, Attempts, Performs, Runs, Texts};
 
-use crate::commands::solve_names;
+use crate::commands::{Command, command_of};
+use crate::judging::judge;
 use crate::loading::load;
-use crate::printing::print;
+use crate::printing::{print, print_verdict};
 use crate::proving::prove;
 use crate::refusal::{Refusal, complain};
 use crate::status::Status;
@@ -21,9 +23,9 @@ const BUDGET: u64 = 10_000_000;
 /// line's words without the program's name.
 pub fn run<W: World>(alloc: Global, world: &mut W, words: &[String]) -> Status
     requires { IsFresh (W.seen world.old) }
-    ensures runs { Runs (names_of words.now) (W.seen world.old) (W.seen world.new) result }
-    ensures completes { Completes (names_of words.now) (W.seen world.old) (W.seen world.new) result }
-    ensures texts { Texts (names_of words.now) (W.seen world.old) (W.seen world.new) result }
+    ensures runs { Runs (plan_of words.now) (W.seen world.old) (W.seen world.new) result }
+    ensures completes { Completes (plan_of words.now) (W.seen world.old) (W.seen world.new) result }
+    ensures texts { Texts (plan_of words.now) (W.seen world.old) (W.seen world.new) result }
     ensures follows { W.follows world.old world.new }
 {
     match attempt(alloc, world, words) {
@@ -35,17 +37,30 @@ pub fn run<W: World>(alloc: Global, world: &mut W, words: &[String]) -> Status
 // Does what the words say, up to the saying why the run ends without a verdict.
 fn attempt<W: World>(alloc: Global, world: &mut W, words: &[String]) -> Result<Status, Refusal>
     requires { IsFresh (W.seen world.old) }
-    ensures attempts { Attempts (names_of words.now) (W.seen world.old) (W.seen world.new) result }
+    ensures attempts { Attempts (plan_of words.now) (W.seen world.old) (W.seen world.new) result }
     ensures follows { W.follows world.old world.new }
 {
-    match solve_names(words) {
-        Some((formula, proof)) => perform(alloc, world, formula, proof),
+    match command_of(words) {
+        Some(command) => perform(alloc, world, command),
         None => Err(Refusal::Usage),
     }
 }
 
+// Does what the command says.
+fn perform<W: World>(alloc: Global, world: &mut W, command: Command<'_>) -> Result<Status, Refusal>
+    requires fresh { IsFresh (W.seen world.old) }
+    requires apart { AreApart (plan_in command) }
+    ensures performs { Performs (plan_in command.entry) (W.seen world.old) (W.seen world.new) result }
+    ensures follows { W.follows world.old world.new }
+{
+    match command {
+        Command::Solve { formula, proof } => solve(alloc, world, formula, proof),
+        Command::Check { formula, proof } => check(alloc, world, formula, proof),
+    }
+}
+
 // Reads the formula, solves it with its proof written on the way, and prints the verdict.
-fn perform<W: World>(
+fn solve<W: World>(
     alloc: Global,
     world: &mut W,
     formula: &str,
@@ -53,11 +68,27 @@ fn perform<W: World>(
 ) -> Result<Status, Refusal>
     requires fresh { IsFresh (W.seen world.old) }
     requires differ { formula.now ≡ proof.now → ⊥ }
-    ensures performs { Performs (record { formula = formula.now; proof = proof.now }) (W.seen world.old) (W.seen world.new) result }
+    ensures performs { Performs (Solve (record { formula = formula.now; proof = proof.now })) (W.seen world.old) (W.seen world.new) result }
     ensures follows { W.follows world.old world.new }
 {
     let loaded = load(alloc, world, formula)?;
     let variables = loaded.variables;
     let answer = prove(alloc, world, proof, loaded, &Options { budget: BUDGET })?;
     print(alloc, world, &answer, variables)
+}
+
+// Reads the formula, judges its proof, and prints the verdict.
+fn check<W: World>(
+    alloc: Global,
+    world: &mut W,
+    formula: &str,
+    proof: &str,
+) -> Result<Status, Refusal>
+    requires { IsFresh (W.seen world.old) }
+    ensures performs { Performs (Check (record { formula = formula.now; proof = proof.now })) (W.seen world.old) (W.seen world.new) result }
+    ensures follows { W.follows world.old world.new }
+{
+    let loaded = load(alloc, world, formula)?;
+    let verdict = judge(alloc, world, proof, loaded)?;
+    print_verdict(world, verdict)
 }

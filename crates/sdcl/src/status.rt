@@ -5,9 +5,13 @@
 pub enum Status {
     /// The budget was spent.
     Unknown,
+    /// The proof refutes the formula.
+    Verified,
+    /// The proof does not refute the formula.
+    NotVerified,
     /// The words name no command.
     Usage,
-    /// The formula's text has a fault.
+    /// The text of the formula or of the proof has a fault.
     Grammar,
     /// A file could not be opened or created.
     OpenFault,
@@ -35,6 +39,8 @@ impl Status {
     {
         match self {
             Status::Unknown => 0,
+            Status::Verified => 0,
+            Status::NotVerified => 1,
             Status::Usage => 2,
             Status::Grammar => 3,
             Status::OpenFault => 4,

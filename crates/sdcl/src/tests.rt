@@ -1,6 +1,8 @@
 //! Whole runs over a world in memory.
 ghost use Rattle.sdcl_io.specs.Memory.{seen_of};
-ghost use Rattle.sdcl.specs.Running.{IsFresh};
+ghost use Rattle.sdcl.specs.Starting.{IsFresh};
+
+mod checking;
 
 use crate::run::run;
 use sdcl_base::NoMemory;
@@ -43,12 +45,12 @@ impl Ended {
     }
 }
 
-fn put_formula(world: &mut MemoryWorld, text: Option<&[u8]>) -> Result<(), NoMemory>
+fn put(world: &mut MemoryWorld, name: &str, text: Option<&[u8]>) -> Result<(), NoMemory>
     requires { IsFresh (seen_of world.old) }
     ensures { IsFresh (seen_of world.new) }
 {
     if let Some(text) = text {
-        world.put_file("f", text)?;
+        world.put_file(name, text)?;
     }
     Ok(())
 }
@@ -63,18 +65,32 @@ fn plan_failure(world: &mut MemoryWorld, failing: Option<(CallKind, u64)>) -> Re
     Ok(())
 }
 
-// Runs the words in a world that has the formula under the name f, gives at most so many bytes a read, and
-// fails where it is told to.
+// What lies in a world: the formula under the name f, and the proof under the name p.
+#[derive(Clone, Copy)]
+struct Files<'t> {
+    formula: Option<&'t [u8]>,
+    proof: Option<&'t [u8]>,
+}
+
+fn only<'t>(formula: &'t [u8]) -> Files<'t> {
+    Files {
+        formula: Some(formula),
+        proof: None,
+    }
+}
+
+// Runs the words in a world that has the files, gives at most so many bytes a read, and fails where it is told to.
 fn end(
     alloc: Global,
     words: &[&str],
-    text: Option<&[u8]>,
+    files: Files<'_>,
     most: usize,
     failing: Option<(CallKind, u64)>,
 ) -> Result<Ended, Fail> {
     let words = words_of(alloc, words)?;
     let mut world = MemoryWorld::new(alloc);
-    put_formula(&mut world, text)?;
+    put(&mut world, "f", files.formula)?;
+    put(&mut world, "p", files.proof)?;
     world.cut_reads(most.max(1));
     plan_failure(&mut world, failing)?;
     let code = run(alloc, &mut world, words.as_slice()).code();
@@ -89,6 +105,11 @@ fn end(
         proof,
     })
 }
+
+const NO_FILES: Files<'static> = Files {
+    formula: None,
+    proof: None,
+};
 
 const SOLVE: [&str; 3] = ["solve", "f", "p"];
 
@@ -135,7 +156,7 @@ const VERDICTS: [(&[u8], u8, &[u8], &[u8]); 12] = [
 fn each_formula_gets_its_verdict_and_its_proof(rt: HostRuntime) -> Result<(), Fail> {
     for (text, code, out, proof) in VERDICTS {
         for most in [4096usize, 3, 1] {
-            let ended = end(rt.alloc(), &SOLVE, Some(text), most, None)?;
+            let ended = end(rt.alloc(), &SOLVE, only(text), most, None)?;
             assert!(rt; ended.is(code, out, b"", Some(proof)));
         }
     }
@@ -144,16 +165,20 @@ fn each_formula_gets_its_verdict_and_its_proof(rt: HostRuntime) -> Result<(), Fa
 
 #[test]
 fn other_words_are_a_usage_fault(rt: HostRuntime) -> Result<(), Fail> {
-    let lists: [&[&str]; 6] = [
+    let lists: [&[&str]; 10] = [
         &[],
         &["solve"],
         &["solve", "f"],
         &["solve", "f", "f"],
         &["solve", "f", "p", "q"],
-        &["check", "f", "p"],
+        &["check"],
+        &["check", "f"],
+        &["check", "f", "p", "q"],
+        &["Check", "f", "p"],
+        &["", "f", "p"],
     ];
     for list in lists {
-        let ended = end(rt.alloc(), list, Some(THREE_PIGEONS), 4096, None)?;
+        let ended = end(rt.alloc(), list, only(THREE_PIGEONS), 4096, None)?;
         assert!(rt; ended.is(2, b"", b"sdcl: usage\n", None));
     }
     Ok(())
@@ -197,7 +222,7 @@ const FAULTS: [(&[u8], &[u8]); 21] = [
 fn the_first_fault_is_named(rt: HostRuntime) -> Result<(), Fail> {
     for (text, line) in FAULTS {
         for most in [4096usize, 1] {
-            let ended = end(rt.alloc(), &SOLVE, Some(text), most, None)?;
+            let ended = end(rt.alloc(), &SOLVE, only(text), most, None)?;
             assert!(rt; ended.is(3, b"", line, None));
         }
     }
@@ -270,7 +295,7 @@ fn a_failing_call_has_its_status_and_leaves_a_prefix(rt: HostRuntime) -> Result<
         let ended = end(
             rt.alloc(),
             &SOLVE,
-            Some(THREE_PIGEONS),
+            only(THREE_PIGEONS),
             4096,
             Some((kind, nth)),
         )?;
@@ -281,7 +306,7 @@ fn a_failing_call_has_its_status_and_leaves_a_prefix(rt: HostRuntime) -> Result<
 
 #[test]
 fn a_missing_formula_is_an_open_fault(rt: HostRuntime) -> Result<(), Fail> {
-    let ended = end(rt.alloc(), &SOLVE, None, 4096, None)?;
+    let ended = end(rt.alloc(), &SOLVE, NO_FILES, 4096, None)?;
     assert!(rt; ended.is(4, b"", b"sdcl: open fault formula\n", None));
     Ok(())
 }
@@ -301,7 +326,7 @@ fn each_call_fails_in_its_turn_until_none_is_left(rt: HostRuntime) -> Result<(),
     for (kind, code, made) in calls {
         for nth in 1..6u64 {
             let failing = Some((*kind, nth));
-            let ended = end(rt.alloc(), &SOLVE, Some(THREE_PIGEONS), 4096, failing)?;
+            let ended = end(rt.alloc(), &SOLVE, only(THREE_PIGEONS), 4096, failing)?;
             let due = if nth <= *made { *code } else { 20 };
             assert!(rt; ended.code == due);
             assert!(rt; ended.leaves_a_prefix_of(b"-1 0\n0\n"));

@@ -1,4 +1,3 @@
-use Rattle.std.proofs.Common.{◌≡◌, rules}
 use Rattle.sdcl.proofs.Phases.{nothing_held, made_and_written, file_holds}
 use Rattle.sdcl.proofs.proving.prove.Goals as goal
 

@@ -1,0 +1,8 @@
+use Rattle.std.proofs.Common.{◌≡◌, ◌≤◌, take}
+use Rattle.sdcl.proofs.judging.database_of.Given as goal
+
+abbrev pub invariant-loop-id : goal.invariant-loop-id
+invariant-loop-id l = record {
+  copied : l.database.clauses ≡ take l.id l.loaded.store;
+  covered : l.loaded.variables ≤ l.database.covered;
+}

@@ -1,0 +1,7 @@
+use Rattle.sdcl.proofs.Solved.{solved}
+use Rattle.sdcl.proofs.run.solve.Goals as goal
+
+pub returns-clause-performs : goal.returns-clause-performs
+returns-clause-performs g c =
+    solved _ c.in_ok-loaded.loaded c.in_ok-answer.answer _ _ _ _ c.load.result c.prove.result c.print.result c.requires.fresh c.requires.differ c.in_ok-loaded.was c.in_ok-answer.was
+    c.load.ensures.loads c.prove.ensures.proves c.print.ensures.prints

@@ -1,0 +1,101 @@
+-- What the judging of a proof did.
+use Rattle.std.specs.Prelude.{◌≡◌, ⊤, ℕ, Bool, false, List, [], ◌++◌, length, Option, None, Some, Result, IfOk, IfErr}
+use Rattle.std.specs.List.{list_any}
+use Rattle.sdcl_base.specs.Literal.{Clause}
+use Rattle.sdcl_base.specs.Truth.{Unsatisfiable}
+use Rattle.sdcl_io.specs.declared.world.InRole.TheVariants.{Proof}
+use Rattle.sdcl_io.specs.declared.world.InRole.TheVariants as input
+use Rattle.sdcl_io.specs.World.{Seen, OnlyRead, Rose}
+use Rattle.sdcl_io.specs.Ahead.{ahead_of}
+use Rattle.sdcl_io.specs.Step.{Step, All, Fault, Over, Judgement, Verified, NotVerified, Ended, adds_empty, judge, ValidSteps}
+use Rattle.sdcl_proof.specs.declared.step.Dialect.TheVariants.{Pr}
+use Rattle.sdcl_proof.specs.declared.fault.ProofError.{ProofError}
+use Rattle.sdcl_proof.specs.Faults.{kind_code}
+use Rattle.sdcl_proof.specs.ProofText.{ProofText, proof_text}
+use Rattle.sdcl_proof.specs.Stepping.{left_of, text_in}
+use Rattle.sdcl_prcheck.specs.declared.verdict.Verdict.{Verdict}
+use Rattle.sdcl_prcheck.specs.declared.verdict.Verdict.TheVariants as verdict
+use Rattle.sdcl_prcheck.specs.Checking.{IsJudgedOf, Bears, IsReadOut}
+use Rattle.sdcl.specs.declared.refusal.Place.TheVariants as place
+use Rattle.sdcl.specs.declared.refusal.Refusal.{Refusal}
+use Rattle.sdcl.specs.declared.refusal.Refusal.TheVariants as refusal
+
+-- the greatest number of bytes of a proof's text
+abbrev pub proof_limit : ℕ
+proof_limit = 536870912
+
+-- what a proof's text stands for
+abbrev pub steps_of : List ℕ → ProofText
+steps_of text = proof_text Pr proof_limit text
+
+-- the judgement of a proof's text
+abbrev pub judgement : List Clause → List ℕ → Judgement
+judgement f text = judge All f (steps_of text).steps (steps_of text).ending
+
+-- the judgement of the text over these clauses is this, where the text is told
+abbrev pub JudgedAs : List Clause → Option (List ℕ) → Judgement → Type 0
+JudgedAs f None j = ⊤
+JudgedAs f (Some text) j = judgement f text ≡ j
+
+-- the judgement that a verdict is
+abbrev pub judgement_in : Verdict → Judgement
+judgement_in verdict.Verified = Verified
+judgement_in (verdict.NotVerified k) = NotVerified k
+
+-- the steps and the ending that a reading has ahead that stands between two words, behind so many bytes and before these
+abbrev pub steps_ahead : Bool → ℕ → List ℕ → Option ProofText
+steps_ahead at_line_start at more = left_of Pr (ahead_of proof_limit at_line_start at (Some more))
+
+-- How far the text was read: some bytes of it were taken, what is left is a part of those behind them, and these steps end there,
+-- with the first that adds the empty clause, or with the text.
+pub record ReadTo (steps : List Step) (text left : List ℕ) : Type 0 where
+  pub taken : List ℕ
+  pub more : List ℕ
+  pub kept : List ℕ
+  pub at_line_start : Bool
+  pub is : text ≡ taken ++ more
+  pub behind : more ≡ kept ++ left
+  pub ends : IsReadOut steps (Some (steps_of text)) (steps_ahead at_line_start (length taken) more)
+  pub at_end : list_any adds_empty steps ≡ false → more ≡ []
+
+-- the same, where the text is told
+abbrev pub IsReadTo : List Step → Option (List ℕ) → Option (List ℕ) → Type 0
+IsReadTo steps None left = ⊤
+IsReadTo steps (Some text) None = ⊥
+IsReadTo steps (Some text) (Some left) = ReadTo steps text left
+
+-- What a verdict on a text rests on: its judgement, and the valid steps that were taken, of which the next one is not valid
+-- or none is needed. A verified proof leaves no assignment, told or not.
+pub record Judged (f : List Clause) (text left : Option (List ℕ)) (v : Verdict) : Type 0 where
+  pub judged : JudgedAs f text (judgement_in v)
+  pub steps : List Step
+  pub valid : ValidSteps f steps
+  pub bears : Bears f steps v
+  pub read_to : v ≡ verdict.Verified → IsReadTo steps text left
+  pub refuted : v ≡ verdict.Verified → Unsatisfiable f
+
+-- What the judging of an open text did, of which so much is left.
+pub record JudgesText (f : List Clause) (text left : Option (List ℕ)) (result : Result Verdict ProofError) : Type 0 where
+  pub answers : IsJudgedOf result f (text_in Pr proof_limit text)
+  pub ok : IfOk result (λ v. Judged f text left v)
+
+-- why there is no verdict
+abbrev pub JudgeCause : List ℕ → List Clause → Seen → Seen → Refusal → Type 0
+JudgeCause name f s t refusal.Usage = ⊥
+JudgeCause name f s t (refusal.FormulaGrammar fault) = ⊥
+JudgeCause name f s t (refusal.ProofGrammar fault) = JudgedAs f (s.file name) (Ended (Fault fault.offset (kind_code fault.kind)))
+JudgeCause name f s t (refusal.Open place.Formula) = ⊥
+JudgeCause name f s t (refusal.Open place.Proof) = Rose (s.open_faults Proof name) (t.open_faults Proof name)
+JudgeCause name f s t (refusal.Open place.Out) = ⊥
+JudgeCause name f s t (refusal.Read input.Formula) = ⊥
+JudgeCause name f s t (refusal.Read input.Proof) = Rose (s.read_faults Proof) (t.read_faults Proof)
+JudgeCause name f s t (refusal.Write where') = ⊥
+JudgeCause name f s t refusal.Memory = ⊤
+JudgeCause name f s t (refusal.Over input.Formula) = ⊥
+JudgeCause name f s t (refusal.Over input.Proof) = JudgedAs f (s.file name) (Ended Over)
+
+-- What the judging of the named file over these clauses did.
+pub record Judges (name : List ℕ) (f : List Clause) (s t : Seen) (result : Result Verdict Refusal) : Type 0 where
+  pub only : OnlyRead Proof s t
+  pub ok : IfOk result (λ v. Judged f (s.file name) (t.left Proof) v)
+  pub err : IfErr result (λ e. JudgeCause name f s t e)

@@ -1,0 +1,94 @@
+//! The judging of a proof.
+ghost use Rattle.std.specs.Prelude.{◌≡◌, ◌≤◌, true, IsTrue, IfOk, IsErrOf, None};
+ghost use Rattle.sdcl_io.specs.declared.world.InRole.TheVariants as input;
+ghost use Rattle.sdcl_io.specs.World.{Rose, OnlyRead};
+ghost use Rattle.sdcl_io.specs.Readers.{reading};
+ghost use Rattle.sdcl_proof.specs.Stepping.{stepping, text_in, left_in};
+ghost use Rattle.sdcl_base.specs.Sets.{WithinVariables};
+ghost use Rattle.sdcl.specs.Judging.{Judges, JudgesText};
+
+use crate::loading::Loaded;
+use crate::refusal::{Place, Refusal};
+use sdcl_base::{ClauseId, NoMemory};
+use sdcl_io::{Failed, InRole, Reader, World};
+use sdcl_prcheck::{Verdict, check_pr};
+use sdcl_proof::{Dialect, ProofError, StepReader};
+use sdcl_rup::Database;
+use std::alloc::Global;
+
+/// The greatest number of bytes of a proof's text.
+const PROOF_LIMIT: u64 = 536_870_912;
+
+/// Opens the named file, and judges it as a proof of the formula.
+pub fn judge<W: World>(
+    alloc: Global,
+    world: &mut W,
+    name: &str,
+    loaded: Loaded,
+) -> Result<Verdict, Refusal>
+    requires few { loaded.variables ≤ 4194303 }
+    requires within { WithinVariables loaded.variables loaded.store }
+    ensures judges { Judges name.now loaded.store (W.seen world.old) (W.seen world.new) result }
+    ensures follows { W.follows world.old world.new }
+{
+    match world.open_input(InRole::Proof, name) {
+        Ok(()) => {}
+        Err(Failed::Fault) => return Err(Refusal::Open(Place::Proof)),
+        Err(Failed::NoMemory) => return Err(Refusal::Memory),
+    }
+    let Ok(mut database) = database_of(alloc, loaded) else {
+        return Err(Refusal::Memory);
+    };
+    match judge_open(alloc, world, &mut database) {
+        Ok(verdict) => Ok(verdict),
+        Err(ProofError::Grammar(fault)) => Err(Refusal::ProofGrammar(fault)),
+        Err(ProofError::ReadFault) => Err(Refusal::Read(InRole::Proof)),
+        Err(ProofError::TooLong) => Err(Refusal::Over(InRole::Proof)),
+        Err(ProofError::NoMemory) => Err(Refusal::Memory),
+    }
+}
+
+// The clauses of the formula, for a checker.
+fn database_of(alloc: Global, loaded: Loaded) -> Result<Database, NoMemory>
+    requires few { loaded.variables ≤ 4194303 }
+    requires within { WithinVariables loaded.variables loaded.store }
+    ensures { IfOk result (λ database. database.clauses ≡ loaded.store) }
+{
+    let mut database = Database::new(alloc)?;
+    database.cover(loaded.variables)?;
+    for id in 0..loaded.store.slots() {
+        database.add(loaded.store.literals(ClauseId(id)))?;
+    }
+    Ok(database)
+}
+
+// Lends the world to a reader of the open proof.
+fn judge_open<W: World>(
+    alloc: Global,
+    world: &mut W,
+    database: &mut Database,
+) -> Result<Verdict, ProofError>
+    requires open { IsTrue ((W.seen world.old).is_open input.Proof) }
+    ensures only { OnlyRead input.Proof (W.seen world.old) (W.seen world.new) }
+    ensures judges { JudgesText database.old.clauses ((W.seen world.old).left input.Proof) ((W.seen world.new).left input.Proof) result }
+    ensures fault { IsErrOf result ProofError.ReadFault → Rose ((W.seen world.old).read_faults input.Proof) ((W.seen world.new).read_faults input.Proof) }
+    ensures follows { W.follows world.old world.new }
+{
+    let mut steps = steps_of(Reader::new(world, InRole::Proof, PROOF_LIMIT));
+    check_pr(alloc, &mut steps, database)
+}
+
+// The steps of the text that the reader stands at the start of.
+fn steps_of<'w, W: World>(reader: Reader<'w, W>) -> StepReader<'w, W>
+    requires fresh { (reading reader).given ≡ 0 }
+    requires sound { (reading reader).failed ≡ None }
+    ensures same_reference { result.words.reader.world.ghost_name ≡ reader.entry.world.ghost_name }
+    ensures view { stepping result ≡ record { words = record { reading = reading reader.entry; at_line_start = true }; dialect = Dialect.Pr; failed = None } }
+    ensures text { left_in (stepping result) ≡ text_in Dialect.Pr (reading reader.entry).limit (reading reader.entry).rest }
+    ensures same_world { result.words.reader.world.now ≡ reader.entry.world.now }
+{
+    match StepReader::new(reader, Dialect::Pr) {
+        Ok(steps) => steps,
+        Err(_) => unreachable!(),
+    }
+}
