@@ -25,7 +25,7 @@ fn both<'t>(formula: &'t [u8], proof: &'t [u8]) -> Files<'t> {
 }
 
 // A formula, a proof, and the status, the output and the line on standard error that they give.
-const CHECKS: [(&[u8], &[u8], u8, &[u8], &[u8]); 16] = [
+const CHECKS: [(&[u8], &[u8], u8, &[u8], &[u8]); 19] = [
     (ONE_CLAUSE, b"0\n", 1, b"s NOT VERIFIED\nc step 1\n", b""),
     (ONE_CLAUSE, b"", 1, b"s NOT VERIFIED\nc step 1\n", b""),
     (THREE_PIGEONS, b"-1 0\n0\n", 0, b"s VERIFIED\n", b""),
@@ -80,6 +80,27 @@ const CHECKS: [(&[u8], &[u8], u8, &[u8], &[u8]); 16] = [
         3,
         b"",
         b"sdcl: proof fault 1 at 0\n",
+    ),
+    (
+        ONE_CLAUSE,
+        b"1 2 0 x\n",
+        3,
+        b"",
+        b"sdcl: proof fault 1 at 6\n",
+    ),
+    (
+        ONE_CLAUSE,
+        b"1 2 1 1 2 2 0\n",
+        1,
+        b"s NOT VERIFIED\nc step 2\n",
+        b"",
+    ),
+    (
+        ONE_CLAUSE,
+        b"4194303 0\n",
+        1,
+        b"s NOT VERIFIED\nc step 2\n",
+        b"",
     ),
     (b"p cnf 1 1\n0\n", b"", 0, b"s VERIFIED\n", b""),
     (
