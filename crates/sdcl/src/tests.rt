@@ -305,6 +305,16 @@ fn a_failing_call_has_its_status_and_leaves_a_prefix(rt: HostRuntime) -> Result<
 }
 
 #[test]
+fn a_failing_write_on_standard_error_keeps_the_status(rt: HostRuntime) -> Result<(), Fail> {
+    let failing = Some((CallKind::Write(OutRole::Err), 1));
+    for (words, code) in [([].as_slice(), 2), (SOLVE.as_slice(), 3)] {
+        let ended = end(rt.alloc(), words, only(b"p dnf 1 1\n"), 4096, failing)?;
+        assert!(rt; ended.is(code, b"", b"", None));
+    }
+    Ok(())
+}
+
+#[test]
 fn a_missing_formula_is_an_open_fault(rt: HostRuntime) -> Result<(), Fail> {
     let ended = end(rt.alloc(), &SOLVE, NO_FILES, 4096, None)?;
     assert!(rt; ended.is(4, b"", b"sdcl: open fault formula\n", None));

@@ -244,6 +244,11 @@ fn pigeonholes_are_refuted_by_the_empty_clause(rt: HostRuntime) -> Result<(), Fa
             told.iter().rev().take(2).filter(|n| **n == 0).count(),
             told.len().min(2)
         );
+        assert!(rt; numbers.len() < 100000);
+        let store = store_of(alloc, numbers.as_slice(), variables)?;
+        let options = Options { budget: 100000 };
+        let answer = solve(alloc, store, variables, &options, &mut Discard)?;
+        assert_eq!(rt; ending(&answer), 20);
     }
     Ok(())
 }

@@ -177,6 +177,27 @@ fn each_read_fails_in_its_turn_until_none_is_left(rt: HostRuntime) -> Result<(),
     Ok(())
 }
 
+#[test]
+fn a_failing_read_is_told_whatever_the_proof(rt: HostRuntime) -> Result<(), Fail> {
+    for (formula, proof, code, out, err) in CHECKS {
+        for (role, line, _) in READS {
+            let mut failed = 0u64;
+            for nth in 1..600u64 {
+                let failing = Some((CallKind::Read(role), nth));
+                let ended = end(rt.alloc(), &CHECK, both(formula, proof), 1, failing)?;
+                if !ended.is(5, b"", line, Some(proof)) {
+                    assert!(rt; ended.is(code, out, err, Some(proof)));
+                    break;
+                }
+                failed = nth;
+            }
+            let untouched = role == InRole::Proof && err.starts_with(b"sdcl: formula");
+            assert!(rt; (failed > 0) != untouched && failed < 599);
+        }
+    }
+    Ok(())
+}
+
 // Other calls that fail, and the status and the line that they give.
 const BROKEN: [(CallKind, u8, &[u8]); 3] = [
     (
