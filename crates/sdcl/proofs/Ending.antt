@@ -13,7 +13,7 @@ use Rattle.sdcl.specs.Commands.{Names, Plan, Solve, Check}
 use Rattle.sdcl.specs.Refusals.{status_of, refusal_line, Complains}
 use Rattle.sdcl.specs.Printing.{text_of_answer, text_of_verdict}
 use Rattle.sdcl.specs.Starting.{NoComplaint, NoProof, MadeNothing}
-use Rattle.sdcl.specs.Solving.{SolveCause, Solved, HoldsPrefix}
+use Rattle.sdcl.specs.Solving.{budget, SolveCause, Solved, HoldsPrefix}
 use Rattle.sdcl.specs.Checking.{CheckCause, Checks, ProofUnopened}
 use Rattle.sdcl.specs.Running.{Cause, Ends, OutPrefix, OutSame, OutStays, Refuses, Performs, Attempts, Runs, Texts}
 use Rattle.sdcl.proofs.Roles.{proof_not_err, out_not_err}
@@ -23,7 +23,7 @@ use Rattle.sdcl.proofs.Solved.{lawful_stays}
 -- ---- what stays while the refusal is said
 
 prefix_stays : (names : Names) (s t u : Seen) → OnlyWrote output.Err t u → HoldsPrefix names s t → HoldsPrefix names s u
-prefix_stays names s t u w h = (h.0, h.1, h.2, lawful_stays h.1 t u w.later.tells (w.outputs output.Proof proof_not_err) (w.there output.Proof) h.3)
+prefix_stays names s t u w h = (h.0, h.1, h.2, lawful_stays h.0 budget h.1 t u w.later.tells (w.outputs output.Proof proof_not_err) (w.there output.Proof) h.3)
 
 no_proof_stays : (t u : Seen) → OnlyWrote output.Err t u → NoProof t → NoProof u
 no_proof_stays t u w h there = h (subst IsTrue (w.there output.Proof) there)

@@ -5,6 +5,7 @@ pub mod Phases
 pub mod Roles
 pub mod Printed
 pub mod Making
+pub mod Keeping
 pub mod Solved
 pub mod Checked
 pub mod Ending

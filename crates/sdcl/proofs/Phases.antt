@@ -32,6 +32,9 @@ nothing_held name s t r x e h = let k : Creates Proof name s t (Ok x) = subst (C
 -- the proof is made, and then written
 pub made_and_written : (name : List ℕ) (s t u : Seen) (r : Result Unit Failed) (x : Unit) → r ≡ Ok x → Creates Proof name s t r → Onward Proof t u → OnlyProof name s u
 made_and_written name s t u r x e h k = record {
+  files = λ tells n d.
+      let made : Creates Proof name s t (Ok x) = subst (Creates Proof name s t) e h in
+      k.only.files n (λ b. d (some_same n name (sym b ∙ made.name_is.1 tells))) ∙ h.files n d;
   inputs = λ tells o d.
       let made : Creates Proof name s t (Ok x) = subst (Creates Proof name s t) e h in
       k.only.inputs o (λ n a b. d (sym (h.stand o) ∙ a ∙ ap Some (some_same n name (sym b ∙ made.name_is.1 tells)))) ∙ h.inputs o d;

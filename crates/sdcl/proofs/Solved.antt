@@ -1,12 +1,11 @@
 -- What the phases of `solve` together did.
-use Rattle.std.proofs.Common.{◌≡◌, ◌∙◌, inr, ℕ, true, List, ◌<◌, length, take, Option, Some, None, Result, Ok, Err, IsTrue, sym, subst, arith}
-use Rattle.std.specs.Prelude.{IfSome}
+use Rattle.std.proofs.Common.{◌≡◌, ◌∙◌, inr, ℕ, List, ◌<◌, length, take, Option, Some, None, Result, Ok, Err, IsTrue, sym, subst, arith}
 use Rattle.std.specs.Io.KnownBytes.{Appends}
 use Rattle.sdcl_base.specs.Literal.{Clause}
 use Rattle.sdcl_io.specs.declared.world.InRole.TheVariants as input
 use Rattle.sdcl_io.specs.declared.world.OutRole.TheVariants as output
 use Rattle.sdcl_io.specs.World.{Seen, OnlyWrote, OnlyRead}
-use Rattle.sdcl_io.specs.Step.{Step, All, End, apply_all, valid, ValidSteps}
+use Rattle.sdcl_io.specs.Step.{Step, All, End}
 use Rattle.sdcl_io.proofs.Refuted.{verified_law}
 use Rattle.sdcl_proof.specs.Files.{HoldsSteps}
 use Rattle.sdcl_outer.specs.declared.solving.Answer.{Answer}
@@ -18,7 +17,7 @@ use Rattle.sdcl.specs.declared.refusal.Refusal.{Refusal}
 use Rattle.sdcl.specs.declared.refusal.Refusal.TheVariants as refusal
 use Rattle.sdcl.specs.Commands.{Names, Solve}
 use Rattle.sdcl.specs.Loading.{Loads, IsLoaded, IsReadOut}
-use Rattle.sdcl.specs.Proving.{Proves, IsProved, HoldsLawful, OnlyProof}
+use Rattle.sdcl.specs.Proving.{Proves, IsProved, Lawful, HoldsLawful, OnlyProof}
 use Rattle.sdcl.specs.Printing.{Prints, text_of_answer, status_of_answer, PrintCause}
 use Rattle.sdcl.specs.Starting.{IsFresh}
 use Rattle.sdcl.specs.Solving.{budget, Answered, SolveCause, Solved, HoldsPrefix, SolveOutPrefix}
@@ -32,9 +31,9 @@ steps_stay : (s t : Seen) (steps : List Step) (torn : Option Step) → t.tells �
 steps_stay s t steps None e h k = λ tells. h ∙ k (subst IsTrue e tells)
 steps_stay s t steps (Some step) e h k = (k.0, k.1, (λ tells. h ∙ k.2 (subst IsTrue e tells)))
 
-pub lawful_stays : (f : List Clause) (s t : Seen) → t.tells ≡ s.tells → t.held output.Proof ≡ s.held output.Proof → t.is_there output.Proof ≡ s.is_there output.Proof → HoldsLawful f s → HoldsLawful f t
-lawful_stays f s t e h d k = λ there. let q : (steps : List Step) × (torn : Option Step) × ValidSteps f steps × IfSome torn (λ step. valid (apply_all All f steps) step ≡ true) × HoldsSteps output.Proof s steps torn = k (subst IsTrue d there) in
-    (q.0, q.1, q.2, q.3, steps_stay s t q.0 q.1 e h q.4)
+pub lawful_stays : (n budget : ℕ) (f : List Clause) (s t : Seen) → t.tells ≡ s.tells → t.held output.Proof ≡ s.held output.Proof → t.is_there output.Proof ≡ s.is_there output.Proof → HoldsLawful n budget f s → HoldsLawful n budget f t
+lawful_stays n budget f s t e h d k = λ there.
+    let q : (steps : List Step) × (torn : Option Step) × Lawful n budget f steps torn × HoldsSteps output.Proof s steps torn = k (subst IsTrue d there) in (q.0, q.1, q.2, steps_stay s t q.0 q.1 e h q.3)
 
 -- ---- a verdict
 
@@ -61,6 +60,7 @@ answered names variables f answer s0 s1 s2 s3 p =
       text = p.loaded.text;
       valid = p.proved.1;
       new = p.proved.4;
+      affordable = p.proved.5;
       written = steps_stay s2 s3 p.proved.0 None p.printed.later.tells (p.printed.outputs output.Proof proof_not_out) p.proved.2;
       file = λ tells. p.printed.files names.proof (λ e. none_is_none (sym unnamed ∙ e)) ∙ p.file (subst IsTrue (sym p.read.later.tells) tells) ∙ sym (p.printed.outputs output.Proof proof_not_out);
       silent = p.printed.outputs output.Err err_not_out ∙ p.only.outputs output.Err err_not_proof ∙ p.read.outputs output.Err;
@@ -97,8 +97,17 @@ verdict names variables f answer.Spent s0 s1 s2 s3 p h = record {
 -- ---- a verdict that was not printed
 
 prefix : (names : Names) (variables : ℕ) (f : List Clause) (answer : Answer) (s0 s1 s2 s3 : Seen) → Phases names variables f answer s0 s1 s2 s3 → HoldsPrefix names s0 s3
-prefix names variables f answer s0 s1 s2 s3 p =
-    (variables, f, p.loaded.text, (λ there. (p.proved.0, None, p.proved.1, tt, steps_stay s2 s3 p.proved.0 None p.printed.later.tells (p.printed.outputs output.Proof proof_not_out) p.proved.2)))
+prefix names variables f answer s0 s1 s2 s3 p = (
+  variables,
+  f,
+  p.loaded.text,
+  (λ there. (
+    p.proved.0,
+    None,
+    record { valid = p.proved.1; next = tt; new = p.proved.4; affordable = p.proved.5 },
+    steps_stay s2 s3 p.proved.0 None p.printed.later.tells (p.printed.outputs output.Proof proof_not_out) p.proved.2,
+  )),
+)
 
 unprinted : (names : Names) (variables : ℕ) (f : List Clause) (answer : Answer) (s0 s1 s2 s3 : Seen) (e : Refusal) → Phases names variables f answer s0 s1 s2 s3 → PrintCause s2 s3 e → SolveCause names s0 s3 e
 unprinted names variables f answer s0 s1 s2 s3 refusal.Usage p h = absurd h

@@ -10,3 +10,4 @@ pub mod Starting
 pub mod Solving
 pub mod Checking
 pub mod Running
+pub mod Keeping

@@ -1,5 +1,5 @@
 -- What a run of `solve` does.
-use Rattle.std.specs.Prelude.{◌≡◌, ◌⊎◌, ℕ, Bool, true, List, ◌<◌, length, take, Option, None, IsTrue, codes}
+use Rattle.std.specs.Prelude.{◌≡◌, ◌⊎◌, ℕ, Bool, true, List, ◌<◌, ◌≤◌, length, take, Option, None, IsTrue, codes}
 use Rattle.std.specs.Io.KnownBytes.{Appends}
 use Rattle.sdcl_base.specs.Literal.{Clause}
 use Rattle.sdcl_base.specs.Truth.{meets, Unsatisfiable}
@@ -11,7 +11,7 @@ use Rattle.sdcl_io.specs.Step.{Step, ValidSteps}
 use Rattle.sdcl_proof.specs.Files.{HoldsSteps}
 use Rattle.sdcl_dimacs.specs.FormulaText.{FormulaFault, FormulaOver, Accepted}
 use Rattle.sdcl_dimacs.specs.Faults.{kind_code}
-use Rattle.sdcl_outer.specs.Outcome.{Ends as Concludes, NewSteps}
+use Rattle.sdcl_outer.specs.Outcome.{Ends as Concludes, NewSteps, learned_in}
 use Rattle.sdcl_outer.specs.declared.solving.Answer.{Answer}
 use Rattle.sdcl_outer.specs.declared.solving.Answer.TheVariants as answer
 use Rattle.sdcl.specs.Commands.{Names}
@@ -32,7 +32,7 @@ budget = 10000000
 
 -- what a verdict rests on: the named formula's text, which was read out, stands for these clauses over so many
 -- variables, and the output Proof, and the file of its name, hold the lines of these steps, each valid over what those
--- before it leave, and each but the addition of the empty clause new there
+-- before it leave, and each but the addition of the empty clause new there and one of no more than the budget has
 pub record Answered (names : Names) (s t : Seen) : Type 0 where
   pub variables : ℕ
   pub clauses : List Clause
@@ -40,6 +40,7 @@ pub record Answered (names : Names) (s t : Seen) : Type 0 where
   pub text : StandsFor (s.file names.formula) (Accepted variables clauses)
   pub valid : ValidSteps clauses steps
   pub new : NewSteps variables clauses steps
+  pub affordable : learned_in steps ≤ budget
   pub written : HoldsSteps output.Proof t steps None
   pub file : IsTrue s.tells → t.file names.proof ≡ t.held output.Proof
   pub silent : NoComplaint s t
@@ -68,7 +69,7 @@ pub record IsUnknown (names : Names) (s t : Seen) : Type 0 where
 
 -- the output Proof, where it was made, holds lines of valid steps, and perhaps a part of one more
 abbrev pub HoldsPrefix : Names → Seen → Seen → Type 0
-HoldsPrefix names s t = (variables : ℕ) × (f : List Clause) × StandsFor (s.file names.formula) (Accepted variables f) × HoldsLawful f t
+HoldsPrefix names s t = (variables : ℕ) × (f : List Clause) × StandsFor (s.file names.formula) (Accepted variables f) × HoldsLawful variables budget f t
 
 -- why the run ended without a verdict
 abbrev pub SolveCause : Names → Seen → Seen → Refusal → Type 0

@@ -1,12 +1,12 @@
 //! The solving of the formula, with its proof written on the way.
-ghost use Rattle.std.specs.Prelude.{◌≡◌, ◌≤◌, ◌<◌, ◌+◌, true, IsTrue, IfOk, IfSome, OnErr, IsErrOf, Option, None, List, [], length};
+ghost use Rattle.std.specs.Prelude.{◌≡◌, ◌≤◌, ◌<◌, ◌+◌, true, IsTrue, IfOk, OnErr, IsErrOf, Option, None, List, [], length};
 ghost use Rattle.sdcl_io.specs.declared.world.OutRole.TheVariants.{Proof};
 ghost use Rattle.sdcl_io.specs.World.{Rose};
-ghost use Rattle.sdcl_io.specs.Step.{Step, All, apply_all, valid, ValidSteps};
+ghost use Rattle.sdcl_io.specs.Step.{Step, ValidSteps};
 ghost use Rattle.sdcl_proof.specs.Files.{Onward, HoldsSteps};
 ghost use Rattle.sdcl_base.specs.Sets.{WithinVariables};
-ghost use Rattle.sdcl_outer.specs.Outcome.{Ends as Concludes, NewSteps};
-ghost use Rattle.sdcl.specs.Proving.{Proves};
+ghost use Rattle.sdcl_outer.specs.Outcome.{Ends as Concludes, NewSteps, learned_in};
+ghost use Rattle.sdcl.specs.Proving.{Lawful, Proves};
 
 use crate::loading::Loaded;
 use crate::refusal::{Place, Refusal};
@@ -54,8 +54,8 @@ fn solve_into_file<W: World>(
     requires within { WithinVariables loaded.variables loaded.store }
     requires room { length loaded.store + options.now.budget < 4294967294 }
     ensures onward { Onward Proof (W.seen world.old) (W.seen world.new) }
-    ensures ok { IfOk result (λ a. (steps : List Step) × ValidSteps loaded.store steps × HoldsSteps Proof (W.seen world.new) steps None × Concludes loaded.store loaded.variables options.now.budget steps a × NewSteps loaded.variables loaded.store steps) }
-    ensures err { OnErr result ((steps : List Step) × (torn : Option Step) × ValidSteps loaded.store steps × IfSome torn (λ step. valid (apply_all All loaded.store steps) step ≡ true) × HoldsSteps Proof (W.seen world.new) steps torn) }
+    ensures ok { IfOk result (λ a. (steps : List Step) × ValidSteps loaded.store steps × HoldsSteps Proof (W.seen world.new) steps None × Concludes loaded.store loaded.variables options.now.budget steps a × NewSteps loaded.variables loaded.store steps × (learned_in steps ≤ options.now.budget)) }
+    ensures err { OnErr result ((steps : List Step) × (torn : Option Step) × Lawful loaded.variables options.now.budget loaded.store steps torn × HoldsSteps Proof (W.seen world.new) steps torn) }
     ensures fault { IsErrOf result SolveError.WriteFault → Rose ((W.seen world.old).write_faults Proof) ((W.seen world.new).write_faults Proof) }
     ensures follows { W.follows world.old world.new }
 {

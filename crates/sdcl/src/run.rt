@@ -1,9 +1,10 @@
 //! The whole program, over any world.
-ghost use Rattle.std.specs.Prelude.{◌≡◌, IsTrue, string_bytes};
+ghost use Rattle.std.specs.Prelude.{◌≡◌, IsTrue, Some, string_bytes};
 ghost use Rattle.sdcl_io.specs.declared.world.OutRole.TheVariants as output;
 ghost use Rattle.sdcl.specs.Commands.{Solve, Check, plan_of, plan_in, AreApart};
 ghost use Rattle.sdcl.specs.Starting.{IsFresh};
 ghost use Rattle.sdcl.specs.Running.{Completes, Attempts, Performs, Runs, Texts};
+ghost use Rattle.sdcl.specs.Keeping.{KeepsRest};
 
 use crate::commands::{Command, command_of};
 use crate::judging::judge;
@@ -26,6 +27,7 @@ pub fn run<W: World>(alloc: Global, world: &mut W, words: &[String]) -> Status
     ensures runs { Runs (plan_of words.now) (W.seen world.old) (W.seen world.new) result }
     ensures completes { Completes (plan_of words.now) (W.seen world.old) (W.seen world.new) result }
     ensures texts { Texts (plan_of words.now) (W.seen world.old) (W.seen world.new) result }
+    ensures keeps { KeepsRest (plan_of words.now) (W.seen world.old) (W.seen world.new) }
     ensures follows { W.follows world.old world.new }
 {
     match attempt(alloc, world, words) {
@@ -38,6 +40,7 @@ pub fn run<W: World>(alloc: Global, world: &mut W, words: &[String]) -> Status
 fn attempt<W: World>(alloc: Global, world: &mut W, words: &[String]) -> Result<Status, Refusal>
     requires { IsFresh (W.seen world.old) }
     ensures attempts { Attempts (plan_of words.now) (W.seen world.old) (W.seen world.new) result }
+    ensures keeps { KeepsRest (plan_of words.now) (W.seen world.old) (W.seen world.new) }
     ensures follows { W.follows world.old world.new }
 {
     match command_of(words) {
@@ -51,6 +54,7 @@ fn perform<W: World>(alloc: Global, world: &mut W, command: Command<'_>) -> Resu
     requires fresh { IsFresh (W.seen world.old) }
     requires apart { AreApart (plan_in command) }
     ensures performs { Performs (plan_in command.entry) (W.seen world.old) (W.seen world.new) result }
+    ensures keeps { KeepsRest (Some (plan_in command.entry)) (W.seen world.old) (W.seen world.new) }
     ensures follows { W.follows world.old world.new }
 {
     match command {
@@ -69,6 +73,7 @@ fn solve<W: World>(
     requires fresh { IsFresh (W.seen world.old) }
     requires differ { formula.now ≡ proof.now → ⊥ }
     ensures performs { Performs (Solve (record { formula = formula.now; proof = proof.now })) (W.seen world.old) (W.seen world.new) result }
+    ensures keeps { KeepsRest (Some (Solve (record { formula = formula.now; proof = proof.now }))) (W.seen world.old) (W.seen world.new) }
     ensures follows { W.follows world.old world.new }
 {
     let loaded = load(alloc, world, formula)?;
@@ -86,6 +91,7 @@ fn check<W: World>(
 ) -> Result<Status, Refusal>
     requires { IsFresh (W.seen world.old) }
     ensures performs { Performs (Check (record { formula = formula.now; proof = proof.now })) (W.seen world.old) (W.seen world.new) result }
+    ensures keeps { KeepsRest (Some (Check (record { formula = formula.now; proof = proof.now }))) (W.seen world.old) (W.seen world.new) }
     ensures follows { W.follows world.old world.new }
 {
     let loaded = load(alloc, world, formula)?;

@@ -1,5 +1,5 @@
 -- The clause of the complements of the decisions, and what learning it does to a formula.
-use Rattle.std.proofs.Common.{◌≡◌, ◌≤◌, ◌+◌, ℕ, Bool, true, false, not, ◌||◌, cond, List, [], ◌∷◌, ◌++◌, map, length, length-append, drop, Option, Some, None, Result, Ok, Err, OnErr, refl, sym, ap, subst, ◌∙◌, append_assoc, append-nil, arith, inl, inr}
+use Rattle.std.proofs.Common.{◌≡◌, ◌≤◌, ◌<◌, ◌+◌, ℕ, suc, Bool, true, false, not, ◌||◌, cond, List, [], ◌∷◌, ◌++◌, map, length, length-append, drop, Option, Some, None, Result, Ok, Err, OnErr, refl, sym, ap, subst, ◌∙◌, append_assoc, append-nil, arith, inl, inr}
 use Rattle.std.proofs.lemmas.Bool.{and_parts, not-true, true≢false, false_from_ne_true}
 use Rattle.std.specs.List.{list_any, list_all}
 use Rattle.std.proofs.lemmas.Bool.{or_left, or_right}
@@ -11,7 +11,7 @@ use Rattle.sdcl_base.specs.Redundancy.{rup}
 use Rattle.sdcl_base.proofs.In.{all_in, all_from, in_union_cases, negated_negated}
 use Rattle.sdcl_io.specs.Step.{Step, Add, All, End, Verified, adds_empty, is_empty, apply, apply_all, judge, rat_first, valid, ValidSteps}
 use Rattle.sdcl_io.proofs.Judging.{valid_verified}
-use Rattle.sdcl_outer.specs.Outcome.{is_plain, AreRefuted, Breaks, AddsNew, NewSteps}
+use Rattle.sdcl_outer.specs.Outcome.{is_plain, AreRefuted, Breaks, AddsNew, NewSteps, IsNext, learned_in}
 use Rattle.sdcl_outer.specs.Telling.{IsTold, MayBeTold}
 use Rattle.sdcl_base.specs.Literal.{Literal, Clause, negated, has, union, complements}
 use Rattle.sdcl_base.specs.Sets.{In, WithinVariables}
@@ -175,6 +175,32 @@ pub meets_less : (v : ℕ → Bool) (f g : List Clause) (n : ℕ) → Learned f 
 meets_less v f g n h m =
     all_from (meets_clause v) f (λ d i. all_in (meets_clause v) g d m (subst (λ e. In e d) (sym h.joined) (in_append_left f (drop (length f) g) d i)))
 
+-- ---- the budget
+
+one_more : (b : Bool) (n : ℕ) → cond b n (suc n) ≤ suc n
+one_more true n = omega arith
+one_more false n = omega arith
+
+learned_most : (ss : List Step) → learned_in ss ≤ length ss
+learned_most [] = omega arith
+learned_most (s ∷ ss) = omega (arith, one_more (adds_empty s) (learned_in ss), learned_most ss)
+
+learned_last : (ss : List Step) → learned_in (ss ++ Add [] ∷ []) ≡ learned_in ss
+learned_last [] = refl
+learned_last (s ∷ ss) = ap (λ n. cond (adds_empty s) n (suc n)) (learned_last ss)
+
+pub steps_counted : (f g : List Clause) (k : ℕ) → Learned f g k → length (steps_of f g) ≡ k
+steps_counted f g k h = length-map (drop (length f) g) Add ∙ h.counted
+
+pub affordable : (f g : List Clause) (k budget : ℕ) → Learned f g k → k ≤ budget → learned_in (steps_of f g) ≤ budget
+affordable f g k budget h b = omega (arith, learned_most (steps_of f g), steps_counted f g k h, b)
+
+pub affordable_refuted : (f g : List Clause) (k budget : ℕ) → Learned f g k → k ≤ budget → learned_in (steps_of f g ++ Add [] ∷ []) ≤ budget
+affordable_refuted f g k budget h b = omega (arith, learned_last (steps_of f g), affordable f g k budget h b)
+
+affordable_more : (f g : List Clause) (k budget : ℕ) (s : Step) → Learned f g k → k < budget → learned_in (steps_of f g ++ s ∷ []) ≤ budget
+affordable_more f g k budget s h b = omega (arith, learned_most (steps_of f g ++ s ∷ []), length-append (steps_of f g) (s ∷ []), steps_counted f g k h, b)
+
 -- ---- stopping on an error
 
 pub on_err : {T E : Type 0} (r : Result T E) (P : Type 0) → P → OnErr r P
@@ -198,25 +224,38 @@ pub new_start : (n : ℕ) (f : List Clause) → NewSteps n f (steps_of f f)
 unfolding NewSteps
 new_start n f = subst (λ (cs : List Clause). NewSteps n f (map Add cs)) (sym (drop_all f)) tt
 
-pub breaks_at_start : {S : Type 0} (tells : S → List Step → Option Step → Type 0) (s : S) (f : List Clause) (n : ℕ) → Breaks tells s s f n
+pub breaks_at_start : {S : Type 0} (tells : S → List Step → Option Step → Type 0) (s : S) (f : List Clause) (n budget : ℕ) → Breaks tells s s f n budget
 unfolding ValidSteps NewSteps
-breaks_at_start tells s f n = ([], None, told_nothing tells s, tt, tt, tt)
+breaks_at_start tells s f n budget = ([], None, told_nothing tells s, tt, tt, tt, omega arith)
+
+-- a step that may come over g
+next_learned : (n : ℕ) (f g : List Clause) (k : ℕ) (s : Step) → Learned f g k → valid g s ≡ true → AddsNew n g s → IsNext n (apply_all All f (steps_of f g)) s
+next_learned n f g k s h v a = (valid_learned f g k s h v, subst (λ e. AddsNew n e s) (sym (applied_learned f g k h)) a)
 
 -- a step failed in the sink
-pub breaks_torn : {S : Type 0} (tells : S → List Step → Option Step → Type 0) (old mid new : S) (f g : List Clause) (n k : ℕ) (s : Step) → Learned f g k
-    → IsTold tells old mid (steps_of f g) None → NewSteps n f (steps_of f g) → valid g s ≡ true → ((before : List Step) → tells mid before None → tells new before (Some s))
-    → Breaks tells old new f n
-breaks_torn tells old mid new f g n k s h t w v d = (steps_of f g, Some s, (λ before b. d (before ++ steps_of f g) (t before b)), h.valid, valid_learned f g k s h v, w)
+pub breaks_torn : {S : Type 0} (tells : S → List Step → Option Step → Type 0) (old mid new : S) (f g : List Clause) (n k budget : ℕ) (s : Step) → Learned f g k → k ≤ budget
+    → IsTold tells old mid (steps_of f g) None → NewSteps n f (steps_of f g) → valid g s ≡ true → AddsNew n g s → ((before : List Step) → tells mid before None → tells new before (Some s))
+    → Breaks tells old new f n budget
+breaks_torn tells old mid new f g n k budget s h b t w v a d =
+    (steps_of f g, Some s, (λ before x. d (before ++ steps_of f g) (t before x)), h.valid, next_learned n f g k s h v a, w, affordable f g k budget h b)
 
 told_same : {S : Type 0} (tells : S → List Step → Option Step → Type 0) (old mid new : S) (xs : List Step) (torn : Option Step)
     → IsTold tells old mid xs None → IsTold tells mid new [] torn → IsTold tells old new xs torn
 told_same tells old mid new xs torn h k before t = subst (λ ss. tells new ss torn) (append-nil (before ++ xs)) (k (before ++ xs) (h before t))
 
 -- learning failed, before the step, at it or after it
-pub breaks_learning : {S : Type 0} (tells : S → List Step → Option Step → Type 0) (old mid new : S) (f g : List Clause) (n k : ℕ) (s : Step) → Learned f g k
-    → IsTold tells old mid (steps_of f g) None → NewSteps n f (steps_of f g) → valid g s ≡ true → AddsNew n g s → MayBeTold tells mid new s → Breaks tells old new f n
-breaks_learning tells old mid new f g n k s h t w v a (inl d) = (steps_of f g, None, told_same tells old mid new (steps_of f g) None t d, h.valid, tt, w)
-breaks_learning tells old mid new f g n k s h t w v a (inr (inl d)) =
-    (steps_of f g, Some s, told_same tells old mid new (steps_of f g) (Some s) t d, h.valid, valid_learned f g k s h v, w)
-breaks_learning tells old mid new f g n k s h t w v a (inr (inr d)) =
-    (steps_of f g ++ s ∷ [], None, told_on tells old mid new (steps_of f g) (s ∷ []) None t d, valid_more f g k s h v, tt, new_more n f g k s h w a)
+pub breaks_learning : {S : Type 0} (tells : S → List Step → Option Step → Type 0) (old mid new : S) (f g : List Clause) (n k budget : ℕ) (s : Step) → Learned f g k → k < budget
+    → IsTold tells old mid (steps_of f g) None → NewSteps n f (steps_of f g) → valid g s ≡ true → AddsNew n g s → MayBeTold tells mid new s → Breaks tells old new f n budget
+breaks_learning tells old mid new f g n k budget s h b t w v a (inl d) =
+    (steps_of f g, None, told_same tells old mid new (steps_of f g) None t d, h.valid, tt, w, affordable f g k budget h (omega (arith, b)))
+breaks_learning tells old mid new f g n k budget s h b t w v a (inr (inl d)) =
+    (steps_of f g, Some s, told_same tells old mid new (steps_of f g) (Some s) t d, h.valid, next_learned n f g k s h v a, w, affordable f g k budget h (omega (arith, b)))
+breaks_learning tells old mid new f g n k budget s h b t w v a (inr (inr d)) = (
+  steps_of f g ++ s ∷ [],
+  None,
+  told_on tells old mid new (steps_of f g) (s ∷ []) None t d,
+  valid_more f g k s h v,
+  tt,
+  new_more n f g k s h w a,
+  affordable_more f g k budget s h b,
+)

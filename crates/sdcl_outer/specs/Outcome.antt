@@ -1,5 +1,5 @@
 -- How a run of the solver ends.
-use Rattle.std.specs.Prelude.{◌≡◌, ◌≢◌, ⊤, ℕ, ◌+◌, ◌≤◌, Bool, true, false, List, [], ◌∷◌, ◌++◌, length, Option, None, IfSome}
+use Rattle.std.specs.Prelude.{◌≡◌, ◌≢◌, ⊤, ℕ, suc, ◌+◌, ◌≤◌, Bool, true, false, List, [], ◌∷◌, ◌++◌, length, Option, None, IfSome, if◌then◌else◌}
 use Rattle.std.specs.List.{list_any, list_all}
 use Rattle.sdcl_base.specs.Literal.{Literal, Clause, names}
 use Rattle.sdcl_base.specs.Truth.{meets}
@@ -51,10 +51,22 @@ Ends f n budget steps (answer.Model a) = IsTotal n a × (meets (truth_of a) f �
 Ends f n budget steps answer.Refuted = (earlier : List Step) × (steps ≡ earlier ++ Add [] ∷ []) × (list_any adds_empty earlier ≡ false) × (judge All f steps End ≡ Verified)
 Ends f n budget steps answer.Spent = (length steps ≡ budget) × (list_all is_plain steps ≡ true) × ((ds : Clause) × AreRefuted n (apply_all All f steps) ds)
 
--- the sink took valid steps that add new clauses, and the answer is right after them
-abbrev pub Answers : {S : Type 0} → (S → List Step → Option Step → Type 0) → S → S → List Clause → ℕ → ℕ → Answer → Type 0
-Answers tells old new f n budget a = (steps : List Step) × IsTold tells old new steps None × ValidSteps f steps × Ends f n budget steps a × NewSteps n f steps
+-- how many of the steps are no addition of the empty clause
+abbrev pub learned_in : List Step → ℕ
+learned_in [] = 0
+learned_in (s ∷ ss) = if adds_empty s then learned_in ss else suc (learned_in ss)
 
--- the sink took valid steps that add new clauses, and a step that failed would have been valid after them
-abbrev pub Breaks : {S : Type 0} → (S → List Step → Option Step → Type 0) → S → S → List Clause → ℕ → Type 0
-Breaks tells old new f n = (steps : List Step) × (torn : Option Step) × IsTold tells old new steps torn × ValidSteps f steps × IfSome torn (λ s. valid (apply_all All f steps) s ≡ true) × NewSteps n f steps
+-- the sink took valid steps that add new clauses, no more than the budget has, and the answer is right after them
+abbrev pub Answers : {S : Type 0} → (S → List Step → Option Step → Type 0) → S → S → List Clause → ℕ → ℕ → Answer → Type 0
+Answers tells old new f n budget a =
+    (steps : List Step) × IsTold tells old new steps None × ValidSteps f steps × Ends f n budget steps a × NewSteps n f steps × (learned_in steps ≤ budget)
+
+-- the step is valid over f, and its clause new there
+abbrev pub IsNext : ℕ → List Clause → Step → Type 0
+IsNext n f s = (valid f s ≡ true) × AddsNew n f s
+
+-- the sink took valid steps that add new clauses, no more than the budget has, and a step that failed might have come after them
+abbrev pub Breaks : {S : Type 0} → (S → List Step → Option Step → Type 0) → S → S → List Clause → ℕ → ℕ → Type 0
+Breaks tells old new f n budget =
+    (steps : List Step) × (torn : Option Step) × IsTold tells old new steps torn × ValidSteps f steps × IfSome torn (IsNext n (apply_all All f steps)) × NewSteps n f steps
+    × (learned_in steps ≤ budget)

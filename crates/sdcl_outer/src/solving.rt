@@ -75,7 +75,7 @@ pub fn solve<S: ProofOut>(
     ensures ready { OnOk result (S.ready sink.new) }
     ensures fault { IsErrOf result SolveError.WriteFault → Rose (S.faults sink.old) (S.faults sink.new) }
     ensures ok { IfOk result (λ a. Answers S.tells sink.old sink.new store variables options.now.budget a) }
-    ensures err { OnErr result (Breaks S.tells sink.old sink.new store variables) }
+    ensures err { OnErr result (Breaks S.tells sink.old sink.new store variables options.now.budget) }
 {
     let mut store = store;
     let mut learned: u64 = 0;

@@ -10,7 +10,7 @@ use Rattle.sdcl_outer.specs.Scanning.{Justified, Chosen, IsModel}
 use Rattle.sdcl_base.specs.Sets.{WithinVariables}
 use Rattle.sdcl_outer.proofs.Justifying.{learned_justified, meets_same}
 use Rattle.sdcl_outer.proofs.Choosing.{learned_chosen, learned_new, are_decisions}
-use Rattle.sdcl_outer.proofs.Learning.{steps_of, steps_more, learned_none, learned_more, told_start, told_on, new_start, new_more, on_err, breaks_at_start, breaks_torn, breaks_learning, valid_more, valid_refuted, ends_spent, ends_verified, meets_less}
+use Rattle.sdcl_outer.proofs.Learning.{steps_of, steps_more, learned_none, learned_more, told_start, told_on, new_start, new_more, on_err, breaks_at_start, breaks_torn, breaks_learning, valid_more, valid_refuted, affordable, affordable_refuted, ends_spent, ends_verified, meets_less}
 use Rattle.sdcl_outer.proofs.solving.solve.Goals as goal
 
 pub learning-init : goal.learning-init
@@ -67,15 +67,15 @@ learning-preserved g c =
 
 pub returns-in_err-trail-clause-err : goal.returns-in_err-trail-clause-err
 returns-in_err-trail-clause-err g c =
-    on_err c.from_residual.result (Breaks g.S.ProofOut.tells c.args.sink.now c.args.sink.now c.args.store c.args.variables)
-    (breaks_at_start g.S.ProofOut.tells c.args.sink.now c.args.store c.args.variables)
+    on_err c.from_residual.result (Breaks g.S.ProofOut.tells c.args.sink.now c.args.sink.now c.args.store c.args.variables c.args.options.now.budget)
+    (breaks_at_start g.S.ProofOut.tells c.args.sink.now c.args.store c.args.variables c.args.options.now.budget)
 
 pub returns-in_err-add-clause-err : goal.returns-in_err-add-clause-err
 returns-in_err-add-clause-err g c =
     let refuted : refutes c.learning.store [] ≡ true = subst (λ ds. refutes c.learning.store ds ≡ true) (c.is_at_root.ensures.value.0 c.if-is_at_root.true) (c.learning-test.ensures.conflict refl) in
-    on_err c.from_residual-in_err-add.result (Breaks g.S.ProofOut.tells c.args.sink.now c.add.new.self c.args.store c.args.variables)
-    (breaks_torn g.S.ProofOut.tells c.args.sink.now c.learning.sink c.add.new.self c.args.store c.learning.store c.args.variables c.learning.learned (Add [])
-    c.learning.invariant.learned c.learning.invariant.told c.learning.invariant.fresh (valid_refuted c.learning.store [] refuted) c.in_err-add.ensures.err)
+    on_err c.from_residual-in_err-add.result (Breaks g.S.ProofOut.tells c.args.sink.now c.add.new.self c.args.store c.args.variables c.args.options.now.budget)
+    (breaks_torn g.S.ProofOut.tells c.args.sink.now c.learning.sink c.add.new.self c.args.store c.learning.store c.args.variables c.learning.learned c.args.options.now.budget (Add [])
+    c.learning.invariant.learned (omega (arith, c.learning.invariant.affordable)) c.learning.invariant.told c.learning.invariant.fresh (valid_refuted c.learning.store [] refuted) tt c.in_err-add.ensures.err)
 
 pub returns-in_err-learn-clause-err : goal.returns-in_err-learn-clause-err
 returns-in_err-learn-clause-err g c =
@@ -84,9 +84,9 @@ returns-in_err-learn-clause-err g c =
     let fresh : IsNewClause c.args.variables c.learning.store (complements (decisions c.descend.new.trail.entries)) =
     learned_new c.args.variables c.learning.store c.descend.new.trail.entries c.descend.ensures.chosen c.is_at_root.ensures.sound.apart
     (subst (λ n. Within n c.descend.new.trail.entries) variables c.is_at_root.ensures.sound.within) some in
-    on_err c.from_residual-in_err-learn.result (Breaks g.S.ProofOut.tells c.args.sink.now c.learn.new.sink c.args.store c.args.variables)
-    (breaks_learning g.S.ProofOut.tells c.args.sink.now c.learning.sink c.learn.new.sink c.args.store c.learning.store c.args.variables c.learning.learned
-    (Add (complements (decisions c.descend.new.trail.entries))) c.learning.invariant.learned c.learning.invariant.told c.learning.invariant.fresh
+    on_err c.from_residual-in_err-learn.result (Breaks g.S.ProofOut.tells c.args.sink.now c.learn.new.sink c.args.store c.args.variables c.args.options.now.budget)
+    (breaks_learning g.S.ProofOut.tells c.args.sink.now c.learning.sink c.learn.new.sink c.args.store c.learning.store c.args.variables c.learning.learned c.args.options.now.budget
+    (Add (complements (decisions c.descend.new.trail.entries))) c.learning.invariant.learned (omega (arith, c.learning.invariant.affordable)) c.learning.invariant.told c.learning.invariant.fresh
     (valid_refuted c.learning.store (decisions c.descend.new.trail.entries) (c.learning-test.ensures.conflict refl)) fresh c.in_err-learn.ensures.torn)
 
 pub returns-then-is_at_root-clause-ok : goal.returns-then-is_at_root-clause-ok
@@ -97,6 +97,7 @@ returns-then-is_at_root-clause-ok g c =
       valid_more c.args.store c.learning.store c.learning.learned (Add []) c.learning.invariant.learned (valid_refuted c.learning.store [] refuted),
       (steps_of c.args.store c.learning.store, refl, c.learning.invariant.learned.solid, ends_verified c.args.store c.learning.store c.learning.learned c.learning.invariant.learned refuted),
       new_more c.args.variables c.args.store c.learning.store c.learning.learned (Add []) c.learning.invariant.learned c.learning.invariant.fresh tt,
+      affordable_refuted c.args.store c.learning.store c.learning.learned c.args.options.now.budget c.learning.invariant.learned (omega (arith, c.learning.invariant.affordable)),
     )
 
 pub returns-then-learned-options-clause-ok : goal.returns-then-learned-options-clause-ok
@@ -115,6 +116,7 @@ returns-then-learned-options-clause-ok g c =
       ends_spent c.args.variables c.args.store c.learning.store c.learning.learned c.args.options.now.budget (decisions c.descend.new.trail.entries)
           c.learning.invariant.learned (omega arith) refuted,
       c.learning.invariant.fresh,
+      affordable c.args.store c.learning.store c.learning.learned c.args.options.now.budget c.learning.invariant.learned (omega (arith, c.learning.invariant.affordable)),
     )
 
 pub returns-clause-ok : goal.returns-clause-ok
@@ -132,4 +134,5 @@ returns-clause-ok g c =
         omega (arith, c.into_values.ensures.width, same),
       ),
       c.learning.invariant.fresh,
+      affordable c.args.store c.learning.store c.learning.learned c.args.options.now.budget c.learning.invariant.learned (omega (arith, c.learning.invariant.affordable)),
     )
