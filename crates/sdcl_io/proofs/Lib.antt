@@ -7,5 +7,6 @@ pub mod Scanning
 pub mod Following
 pub mod Counting
 pub mod Advancing
+pub mod Refilling
 pub mod Onward
 pub mod Refuted

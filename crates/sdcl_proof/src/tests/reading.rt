@@ -178,3 +178,16 @@ fn a_failing_read_ends_the_steps(rt: HostRuntime) -> Result<(), Fail> {
     }
     Ok(())
 }
+
+#[test]
+fn a_fault_is_printed_with_its_number(rt: HostRuntime) -> Result<(), Fail> {
+    let error = ProofError::Grammar(ProofFault {
+        offset: 10,
+        kind: UnterminatedStep,
+    });
+    assert_eq!(rt;
+        format!(in rt.alloc(); "{error}")?.as_str(),
+        "proof fault 2 at 10"
+    );
+    Ok(())
+}

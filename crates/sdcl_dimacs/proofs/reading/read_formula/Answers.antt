@@ -88,7 +88,7 @@ returns-in_err-byte-clause-refused g c =
     let limit = c.args.reader.now.limit in
     let refused : c.next_byte.result ≡ Err c.in_err-byte.field-0.0 = c.in_err-byte.was in
     let why : c.in_err-byte.field-0.0 ≡ TooLong → (c.bytes.scanner.at ≡ limit) × HasMore before.rest = λ e. (let k = c.next_byte.ensures.gives.too_long (refused ∙ ap Err e) c.bytes.invariant.sound in (sym c.bytes.invariant.given ∙ k.0 ∙ c.bytes.invariant.onward.limit, k.1)) in
-    refused_by limit (progress_of c.bytes.parser c.bytes.store) (scan_of c.bytes.scanner) _ before.rest after.rest c.in_err-byte.field-0.0 c.from_residual.result c.bytes.invariant.took why c.from_residual.ensures.1
+    refused_by limit (progress_of c.bytes.parser c.bytes.store) (scan_of c.bytes.scanner) _ before.rest after.rest c.in_err-byte.field-0.0 c.from_residual.result c.bytes.invariant.took c.in_err-byte.ensures.gives.kept.0 why c.from_residual.ensures.1
 
 pub returns-in_err-header-clause-refused : goal.returns-in_err-header-clause-refused
 returns-in_err-header-clause-refused g c =
