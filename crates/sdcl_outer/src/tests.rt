@@ -135,6 +135,22 @@ fn run(
     Ok((ending(&answer), sink.steps))
 }
 
+// Solves over a sink that keeps nothing, and answers how it ended.
+fn run_untold(
+    rt: &impl Abort,
+    alloc: Global,
+    numbers: &[i64],
+    variables: u32,
+    budget: u64,
+) -> Result<u32, Fail> {
+    assert!(rt; numbers.len() < 100000);
+    assert!(rt; variables < 1000);
+    assert!(rt; budget < 1000000);
+    let store = store_of(alloc, numbers, variables)?;
+    let answer = solve(alloc, store, variables, &Options { budget }, &mut Discard)?;
+    Ok(ending(&answer))
+}
+
 // The literals of the model, by their numbers; none where there is no model.
 fn model_of(
     rt: &impl Abort,
@@ -176,12 +192,15 @@ fn steps_and_endings(rt: HostRuntime) -> Result<(), Fail> {
         ([0].as_slice(), 1, 0, 20, [0].as_slice()),
         ([1, 0, -1, 0].as_slice(), 1, 0, 20, [0].as_slice()),
         ([1, 2, 0].as_slice(), 2, 0, 10, [].as_slice()),
+        ([1, -1, 0].as_slice(), 1, 0, 10, [].as_slice()),
+        ([].as_slice(), 12, 0, 10, [].as_slice()),
         ([].as_slice(), 0, 0, 10, [].as_slice()),
     ];
     for (numbers, variables, budget, ends, steps) in cases {
         let (found, told) = run(&rt, alloc, numbers, variables, budget)?;
         assert_eq!(rt; found, ends);
         assert_eq!(rt; told.as_slice(), steps);
+        assert_eq!(rt; run_untold(&rt, alloc, numbers, variables, budget)?, ends);
     }
     Ok(())
 }
@@ -244,11 +263,10 @@ fn pigeonholes_are_refuted_by_the_empty_clause(rt: HostRuntime) -> Result<(), Fa
             told.iter().rev().take(2).filter(|n| **n == 0).count(),
             told.len().min(2)
         );
-        assert!(rt; numbers.len() < 100000);
-        let store = store_of(alloc, numbers.as_slice(), variables)?;
-        let options = Options { budget: 100000 };
-        let answer = solve(alloc, store, variables, &options, &mut Discard)?;
-        assert_eq!(rt; ending(&answer), 20);
+        assert_eq!(rt;
+            run_untold(&rt, alloc, numbers.as_slice(), variables, 100000)?,
+            20
+        );
     }
     Ok(())
 }
