@@ -18,7 +18,7 @@ use Rattle.sdcl.specs.Checking.{CheckCause, Checks, ProofUnopened}
 use Rattle.sdcl.specs.Running.{Cause, Ends, OutPrefix, OutSame, OutStays, Refuses, Performs, Attempts, Runs, Texts}
 use Rattle.sdcl.proofs.Roles.{proof_not_err, out_not_err}
 use Rattle.sdcl.proofs.Making.{wrote_on}
-use Rattle.sdcl.proofs.Solved.{lawful_stays}
+use Rattle.sdcl.proofs.Solved.{lawful_stays, steps_stay}
 
 -- ---- what stays while the refusal is said
 
@@ -159,28 +159,40 @@ said s t u e result h w (inr (d, k)) = inr (d, (k.0, k.1, subst (λ x. Appends x
 
 -- ---- what standard output got
 
-out_prefix : (plan : Plan) (s t u : Seen) → OutSame t u → OutPrefix plan s t → OutPrefix plan s u
-out_prefix (Solve names) s t u h k = (k.0, k.1, k.2, k.3, subst (λ x. Appends (s.held output.Out) x (take k.2 (text_of_answer k.0 k.1))) (sym h) k.4)
-out_prefix (Check names) s t u h k = record {
+out_prefix : (plan : Plan) (s t u : Seen) → OnlyWrote output.Err t u → OutPrefix plan s t → OutPrefix plan s u
+out_prefix (Solve names) s t u w k = record {
+  variables = k.variables;
+  clauses = k.clauses;
+  steps = k.steps;
+  found = k.found;
+  text = k.text;
+  valid = k.valid;
+  written = steps_stay t u k.steps None w.later.tells (w.outputs output.Proof proof_not_err) k.written;
+  bears = k.bears;
+  bytes = k.bytes;
+  proper = k.proper;
+  printed = subst (λ x. Appends (s.held output.Out) x (take k.bytes (text_of_answer k.variables k.found))) (sym (w.outputs output.Out out_not_err)) k.printed;
+}
+out_prefix (Check names) s t u w k = record {
   verdict = k.verdict;
   judgement = k.judgement;
   bytes = k.bytes;
   proper = k.proper;
-  printed = subst (λ x. Appends (s.held output.Out) x (take k.bytes (text_of_verdict k.verdict))) (sym h) k.printed;
+  printed = subst (λ x. Appends (s.held output.Out) x (take k.bytes (text_of_verdict k.verdict))) (sym (w.outputs output.Out out_not_err)) k.printed;
 }
 
-quiet : (plan : Plan) (s t u : Seen) (e : Refusal) → OutSame t u → OutStays plan e s t → OutStays plan e s u
-quiet plan s t u refusal.Usage h k = h ∙ k
-quiet plan s t u (refusal.FormulaGrammar fault) h k = h ∙ k
-quiet plan s t u (refusal.ProofGrammar fault) h k = h ∙ k
-quiet plan s t u (refusal.Open where') h k = h ∙ k
-quiet plan s t u (refusal.Read role) h k = h ∙ k
-quiet plan s t u (refusal.Write place.Formula) h k = h ∙ k
-quiet plan s t u (refusal.Write place.Proof) h k = h ∙ k
-quiet plan s t u (refusal.Write place.Out) h k = out_prefix plan s t u h k
-quiet plan s t u refusal.Memory h (inl k) = inl (h ∙ k)
-quiet plan s t u refusal.Memory h (inr k) = inr (out_prefix plan s t u h k)
-quiet plan s t u (refusal.Over role) h k = h ∙ k
+quiet : (plan : Plan) (s t u : Seen) (e : Refusal) → OnlyWrote output.Err t u → OutStays plan e s t → OutStays plan e s u
+quiet plan s t u refusal.Usage w k = w.outputs output.Out out_not_err ∙ k
+quiet plan s t u (refusal.FormulaGrammar fault) w k = w.outputs output.Out out_not_err ∙ k
+quiet plan s t u (refusal.ProofGrammar fault) w k = w.outputs output.Out out_not_err ∙ k
+quiet plan s t u (refusal.Open where') w k = w.outputs output.Out out_not_err ∙ k
+quiet plan s t u (refusal.Read role) w k = w.outputs output.Out out_not_err ∙ k
+quiet plan s t u (refusal.Write place.Formula) w k = w.outputs output.Out out_not_err ∙ k
+quiet plan s t u (refusal.Write place.Proof) w k = w.outputs output.Out out_not_err ∙ k
+quiet plan s t u (refusal.Write place.Out) w k = out_prefix plan s t u w k
+quiet plan s t u refusal.Memory w (inl k) = inl (w.outputs output.Out out_not_err ∙ k)
+quiet plan s t u refusal.Memory w (inr k) = inr (out_prefix plan s t u w k)
+quiet plan s t u (refusal.Over role) w k = w.outputs output.Out out_not_err ∙ k
 
 -- ---- the whole run
 
@@ -217,5 +229,5 @@ wrote (Some plan) s t u e q result n d h w k =
       refusal = e;
       cause = cause_stays plan s t u e n w p.err.0;
       says = said s t u e result h.silent h.writes k;
-      out = quiet plan s t u e (w.outputs output.Out out_not_err) p.err.1;
+      out = quiet plan s t u e w p.err.1;
     })

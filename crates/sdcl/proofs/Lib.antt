@@ -1,3 +1,4 @@
+mod Formed
 pub mod Values
 pub mod Copying
 pub mod Reading

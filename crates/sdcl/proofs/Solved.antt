@@ -23,10 +23,11 @@ use Rattle.sdcl.specs.Starting.{IsFresh}
 use Rattle.sdcl.specs.Solving.{budget, Answered, SolveCause, Solved, HoldsPrefix, SolveOutPrefix}
 use Rattle.sdcl.specs.Running.{IsVerdict, Performs}
 use Rattle.sdcl.proofs.Roles.{proof_not_out, err_not_out, err_not_proof, out_not_proof, some_same, none_is_none}
+use Rattle.sdcl.proofs.Formed.{read_back}
 use Rattle.sdcl.proofs.Printed.{printed_part}
 
 -- the proof's text stays while other outputs are written
-steps_stay : (s t : Seen) (steps : List Step) (torn : Option Step) → t.tells ≡ s.tells → t.held output.Proof ≡ s.held output.Proof
+pub steps_stay : (s t : Seen) (steps : List Step) (torn : Option Step) → t.tells ≡ s.tells → t.held output.Proof ≡ s.held output.Proof
     → HoldsSteps output.Proof s steps torn → HoldsSteps output.Proof t steps torn
 steps_stay s t steps None e h k = λ tells. h ∙ k (subst IsTrue e tells)
 steps_stay s t steps (Some step) e h k = (k.0, k.1, (λ tells. h ∙ k.2 (subst IsTrue e tells)))
@@ -86,6 +87,7 @@ verdict names variables f answer.Refuted s0 s1 s2 s3 p h = record {
   answered = answered names variables f answer.Refuted s0 s1 s2 s3 p;
   refutes = p.proved.3;
   unsatisfiable = verified_law All f p.proved.0 End p.proved.3.3;
+  checked = read_back variables f p.proved.0 p.loaded.few p.proved.4 p.proved.3.3;
   printed = out_text names variables f answer.Refuted s0 s1 s2 s3 _ p h;
 }
 verdict names variables f answer.Spent s0 s1 s2 s3 p h = record {
@@ -128,8 +130,20 @@ is_verdict answer.Refuted = tt
 is_verdict answer.Spent = tt
 
 out_part : (names : Names) (variables : ℕ) (f : List Clause) (answer : Answer) (s0 s1 s2 s3 : Seen) → Phases names variables f answer s0 s1 s2 s3
-    → (n : ℕ) × (n < length (text_of_answer variables answer)) × Appends (s2.held output.Out) (s3.held output.Out) (take n (text_of_answer variables answer)) → SolveOutPrefix s0 s3
-out_part names variables f answer s0 s1 s2 s3 p h = (variables, answer, h.0, h.1, out_text names variables f answer s0 s1 s2 s3 (take h.0 (text_of_answer variables answer)) p h.2)
+    → (n : ℕ) × (n < length (text_of_answer variables answer)) × Appends (s2.held output.Out) (s3.held output.Out) (take n (text_of_answer variables answer)) → SolveOutPrefix names s0 s3
+out_part names variables f answer s0 s1 s2 s3 p h = record {
+  variables = variables;
+  clauses = f;
+  steps = p.proved.0;
+  found = answer;
+  text = p.loaded.text;
+  valid = p.proved.1;
+  written = steps_stay s2 s3 p.proved.0 None p.printed.later.tells (p.printed.outputs output.Proof proof_not_out) p.proved.2;
+  bears = p.proved.3;
+  bytes = h.0;
+  proper = h.1;
+  printed = out_text names variables f answer s0 s1 s2 s3 (take h.0 (text_of_answer variables answer)) p h.2;
+}
 
 printed_or_not : (names : Names) (variables : ℕ) (f : List Clause) (answer : Answer) (s0 s1 s2 s3 : Seen) (r : Result Status Refusal) → Phases names variables f answer s0 s1 s2 s3
     → Prints variables answer s2 s3 r → Performs (Solve names) s0 s3 r

@@ -35,7 +35,7 @@ Runs (Some plan) s t result = Ends plan s t result
 
 -- standard output got a proper prefix of a verdict's text
 abbrev pub OutPrefix : Plan → Seen → Seen → Type 0
-OutPrefix (Solve names) s t = SolveOutPrefix s t
+OutPrefix (Solve names) s t = SolveOutPrefix names s t
 OutPrefix (Check names) s t = CheckOutPrefix names s t
 
 -- standard output got nothing

@@ -7,7 +7,9 @@ use Rattle.sdcl_base.specs.Values.{IsTotal, truth_of}
 use Rattle.sdcl_io.specs.declared.world.InRole.TheVariants as input
 use Rattle.sdcl_io.specs.declared.world.OutRole.TheVariants as output
 use Rattle.sdcl_io.specs.World.{Seen, Rose}
-use Rattle.sdcl_io.specs.Step.{Step, ValidSteps}
+use Rattle.sdcl_io.specs.Step.{Step, Verified, ValidSteps}
+use Rattle.sdcl_proof.specs.Lines.{text_of}
+use Rattle.sdcl.specs.Judging.{proof_limit, judgement}
 use Rattle.sdcl_proof.specs.Files.{HoldsSteps}
 use Rattle.sdcl_dimacs.specs.FormulaText.{FormulaFault, FormulaOver, Accepted}
 use Rattle.sdcl_dimacs.specs.Faults.{kind_code}
@@ -59,6 +61,7 @@ pub record IsUnsatisfiable (names : Names) (s t : Seen) : Type 0 where
   pub answered : Answered names s t
   pub refutes : Concludes answered.clauses answered.variables budget answered.steps answer.Refuted
   pub unsatisfiable : Unsatisfiable answered.clauses
+  pub checked : length (text_of answered.steps) ≤ proof_limit → judgement answered.clauses (text_of answered.steps) ≡ Verified
   pub printed : Appends (s.held output.Out) (t.held output.Out) (codes "s UNSATISFIABLE\n")
 
 -- the written steps are exactly the budget of additions
@@ -103,9 +106,19 @@ Solved names s t status.Limit = SolveCause names s t (refusal.Over input.Formula
 Solved names s t status.Satisfiable = IsSatisfiable names s t
 Solved names s t status.Unsatisfiable = IsUnsatisfiable names s t
 
--- standard output got a proper prefix of the text of a solver's verdict
-abbrev pub SolveOutPrefix : Seen → Seen → Type 0
-SolveOutPrefix s t = (variables : ℕ) × (a : Answer) × (n : ℕ) × (n < length (text_of_answer variables a)) × Appends (s.held output.Out) (t.held output.Out) (take n (text_of_answer variables a))
+-- standard output got a proper prefix of the text of the solver's verdict, which the whole proof bears out
+pub record SolveOutPrefix (names : Names) (s t : Seen) : Type 0 where
+  pub variables : ℕ
+  pub clauses : List Clause
+  pub steps : List Step
+  pub found : Answer
+  pub text : StandsFor (s.file names.formula) (Accepted variables clauses)
+  pub valid : ValidSteps clauses steps
+  pub written : HoldsSteps output.Proof t steps None
+  pub bears : Concludes clauses variables budget steps found
+  pub bytes : ℕ
+  pub proper : bytes < length (text_of_answer variables found)
+  pub printed : Appends (s.held output.Out) (t.held output.Out) (take bytes (text_of_answer variables found))
 
 -- no file failed to open, no output to be made, and no read or write failed
 pub record NothingFailedSolving (names : Names) (s t : Seen) : Type 0 where

@@ -12,7 +12,8 @@ use Rattle.sdcl_outer.specs.Levels.{literals, decisions, undone, value_in, Apart
 use Rattle.sdcl_outer.specs.Scanning.{IsChosen, Chosen, IsSettled}
 use Rattle.sdcl_outer.specs.Outcome.{IsNewClause, AreDecisions}
 use Rattle.sdcl_outer.specs.declared.entry.Entry.{Entry}
-use Rattle.sdcl_outer.proofs.Trails.{decisions_in, value_of_in, differ}
+use Rattle.sdcl_base.specs.Marks.{no_repeats}
+use Rattle.sdcl_outer.proofs.Trails.{no_repeats_decisions, decisions_in, value_of_in, differ}
 use Rattle.sdcl_outer.proofs.Looking.{consistent}
 use Rattle.sdcl_outer.proofs.Justifying.{decisions_more}
 
@@ -216,13 +217,13 @@ new_clause f es h a n =
     let q : (d : Clause) × In f d × (subset d (complements (decisions es)) ≡ true) = any_from (λ d. subset d (complements (decisions es))) f e in
     no_old_clause f q.0 es h q.1 n (λ m j. has_in (complements (decisions es)) m (all_in (has (complements (decisions es))) q.0 m q.2 j)))))
 
-new_from : (n : ℕ) (f : List Clause) (c : Clause) → is_new f c ≡ true → ((m : Literal) → In c m → (1 ≤ m.var) × (m.var ≤ n)) → IsNewClause n f c
-new_from n f [] h k = tt
-new_from n f (l ∷ ls) h k = (h, k)
+new_from : (n : ℕ) (f : List Clause) (c : Clause) → is_new f c ≡ true → no_repeats c ≡ true → ((m : Literal) → In c m → (1 ≤ m.var) × (m.var ≤ n)) → IsNewClause n f c
+new_from n f [] h d k = tt
+new_from n f (l ∷ ls) h d k = (h, (d, k))
 
 pub learned_new : (n : ℕ) (f : List Clause) (es : List Entry) → Chosen f es → Apart es → Within n es → (decisions es ≡ [] → ⊥) → IsNewClause n f (complements (decisions es))
 learned_new n f es h a w e =
-    new_from n f (complements (decisions es)) (new_clause f es h a e) (λ m i.
+    new_from n f (complements (decisions es)) (new_clause f es h a e) (no_repeats_decisions es a) (λ m i.
     let r : (d : Literal) × In (decisions es) d × (m ≡ negated d) = in_map_from negated (decisions es) m i in
     subst (λ (x : Literal). (1 ≤ x.var) × (x.var ≤ n)) (sym r.2) (w r.0 (decisions_in es r.0 r.1)))
 

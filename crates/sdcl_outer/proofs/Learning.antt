@@ -161,9 +161,9 @@ all_plain [] = refl
 all_plain (c ∷ cs) = all_plain cs
 
 pub ends_spent : (n : ℕ) (f g : List Clause) (k budget : ℕ) (ds : Clause) → Learned f g k → k ≡ budget → AreRefuted n g ds
-    → (length (steps_of f g) ≡ budget) × (list_all is_plain (steps_of f g) ≡ true) × ((xs : Clause) × AreRefuted n (apply_all All f (steps_of f g)) xs)
+    → (length (steps_of f g) ≡ budget) × (list_all is_plain (steps_of f g) ≡ true) × (list_any adds_empty (steps_of f g) ≡ false) × ((xs : Clause) × AreRefuted n (apply_all All f (steps_of f g)) xs)
 ends_spent n f g k budget ds h e r =
-    (length-map (drop (length f) g) Add ∙ h.counted ∙ e, all_plain (drop (length f) g), (ds, subst (λ d. AreRefuted n d ds) (sym (applied_learned f g k h)) r))
+    (length-map (drop (length f) g) Add ∙ h.counted ∙ e, all_plain (drop (length f) g), h.solid, (ds, subst (λ d. AreRefuted n d ds) (sym (applied_learned f g k h)) r))
 
 any_there : (ss : List Step) → list_any adds_empty (ss ++ Add [] ∷ []) ≡ true
 any_there ss = list_any-append adds_empty ss (Add [] ∷ []) ∙ or_right (list_any adds_empty ss) true refl

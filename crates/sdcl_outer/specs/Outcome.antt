@@ -1,11 +1,12 @@
 -- How a run of the solver ends.
-use Rattle.std.specs.Prelude.{◌≡◌, ◌≢◌, ⊤, ℕ, suc, ◌+◌, ◌≤◌, Bool, true, false, List, [], ◌∷◌, ◌++◌, length, Option, None, IfSome, if◌then◌else◌}
+use Rattle.std.specs.Prelude.{◌≡◌, ◌≢◌, ⊤, ℕ, suc, ◌+◌, ◌≤◌, Bool, true, false, List, [], ◌∷◌, ◌++◌, length, Option, None, IfSome, slice_get, if◌then◌else◌}
 use Rattle.std.specs.List.{list_any, list_all}
 use Rattle.sdcl_base.specs.Literal.{Literal, Clause, names}
 use Rattle.sdcl_base.specs.Truth.{meets}
 use Rattle.sdcl_base.specs.Sets.{In}
 use Rattle.sdcl_base.specs.Propagation.{closure, refutes}
 use Rattle.sdcl_base.specs.Redundancy.{is_new}
+use Rattle.sdcl_base.specs.Marks.{no_repeats}
 use Rattle.sdcl_base.specs.Values.{IsTotal, truth_of}
 use Rattle.sdcl_io.specs.Step.{Step, Add, AddWitness, Delete, All, End, Verified, adds_empty, apply, apply_all, judge, valid, ValidSteps}
 use Rattle.sdcl_outer.specs.Telling.{IsTold}
@@ -18,16 +19,20 @@ is_plain (Add c) = true
 is_plain (AddWitness c w) = false
 is_plain (Delete c) = false
 
--- a clause with a literal is new over f, and its variables are from 1 to n
+-- no literal stands twice, and the variables are from 1 to n
+abbrev pub IsCleanOver : ℕ → Clause → Type 0
+IsCleanOver n c = (no_repeats c ≡ true) × ((m : Literal) → In c m → (1 ≤ m.var) × (m.var ≤ n))
+
+-- a clause with a literal is new over f, and clean
 abbrev pub IsNewClause : ℕ → List Clause → Clause → Type 0
 IsNewClause n f [] = ⊤
-IsNewClause n f (l ∷ ls) = (is_new f (l ∷ ls) ≡ true) × ((m : Literal) → In (l ∷ ls) m → (1 ≤ m.var) × (m.var ≤ n))
+IsNewClause n f (l ∷ ls) = (is_new f (l ∷ ls) ≡ true) × IsCleanOver n (l ∷ ls)
 
 -- the clause that the step adds is so
 abbrev pub AddsNew : ℕ → List Clause → Step → Type 0
 AddsNew n f (Add c) = IsNewClause n f c
-AddsNew n f (AddWitness c w) = IsNewClause n f c
-AddsNew n f (Delete d) = ⊤
+AddsNew n f (AddWitness c w) = IsNewClause n f c × IsCleanOver n w × (w ≢ []) × (slice_get w 0 ≡ slice_get c 0)
+AddsNew n f (Delete d) = IsCleanOver n d
 
 -- the clause of each step is so, over what the steps before it leave
 unfoldable pub NewSteps : ℕ → List Clause → List Step → Type 0
@@ -49,7 +54,7 @@ pub record AreRefuted (n : ℕ) (f : List Clause) (ds : Clause) : Type 0 where
 abbrev pub Ends : List Clause → ℕ → ℕ → List Step → Answer → Type 0
 Ends f n budget steps (answer.Model a) = IsTotal n a × (meets (truth_of a) f ≡ true) × (length a ≡ n + 1)
 Ends f n budget steps answer.Refuted = (earlier : List Step) × (steps ≡ earlier ++ Add [] ∷ []) × (list_any adds_empty earlier ≡ false) × (judge All f steps End ≡ Verified)
-Ends f n budget steps answer.Spent = (length steps ≡ budget) × (list_all is_plain steps ≡ true) × ((ds : Clause) × AreRefuted n (apply_all All f steps) ds)
+Ends f n budget steps answer.Spent = (length steps ≡ budget) × (list_all is_plain steps ≡ true) × (list_any adds_empty steps ≡ false) × ((ds : Clause) × AreRefuted n (apply_all All f steps) ds)
 
 -- how many of the steps are no addition of the empty clause
 abbrev pub learned_in : List Step → ℕ
