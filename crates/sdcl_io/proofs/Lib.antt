@@ -7,6 +7,7 @@ pub mod Scanning
 pub mod Following
 pub mod Counting
 pub mod Advancing
+pub mod Whole
 pub mod Refilling
 pub mod Onward
 pub mod Refuted
