@@ -2,6 +2,7 @@ pub mod Held
 pub mod Taken
 pub mod Wrote
 pub mod Judging
+pub mod Cases
 pub mod Numbers
 pub mod Scanning
 pub mod Following
