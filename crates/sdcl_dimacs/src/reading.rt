@@ -1,5 +1,5 @@
 //! A formula from an input.
-ghost use Rattle.std.specs.Prelude.{◌≡◌, ◌≤◌, IsTrue, IfOk, IfErr, IfSome, OnOk, IsErrOf, None, [], length};
+ghost use Rattle.std.specs.Prelude.{◌≡◌, ◌≤◌, ◌<◌, IsTrue, IfOk, IfErr, IfSome, OnOk, IsErrOf, None, [], length};
 ghost use Rattle.sdcl_io.specs.World.{Rose};
 ghost use Rattle.sdcl_io.specs.Reading.{Onward};
 ghost use Rattle.sdcl_io.specs.Readers.{reading};
@@ -38,6 +38,7 @@ pub fn read_formula<W: World>(
     ensures within { IfOk result (λ h. IsFormula h store.new) }
     ensures small { length store.new ≤ 16777215 }
     ensures read_fault { IsErrOf result FormulaError.ReadFault → Rose ((reading reader.old).world.read_faults (reading reader.old).role) ((reading reader.new).world.read_faults (reading reader.old).role) }
+    ensures rise { (reading reader.old).world.read_faults (reading reader.old).role < (reading reader.new).world.read_faults (reading reader.old).role → IsErrOf result FormulaError.ReadFault }
 {
     let mut scanner = Scanner::new();
     let mut parser = Parser::new(alloc);

@@ -6,7 +6,7 @@ use Rattle.sdcl_io.specs.Scan.{completes, is_in_word}
 use Rattle.sdcl_dimacs.specs.Parsers.{progress_of}
 use Rattle.sdcl_dimacs.specs.Judging.{IsJudged, Answer, judge, end_of, ending}
 use Rattle.sdcl_io.proofs.Onward.{onward_on}
-use Rattle.sdcl_dimacs.proofs.Taking.{TookOf, took_start, took_word, took_no_word, took_percent}
+use Rattle.sdcl_dimacs.proofs.Taking.{TookOf, took_end, when_ok, took_start, took_word, took_no_word, took_percent}
 use Rattle.sdcl_dimacs.proofs.Refused.{refused_by, refused_word_by, refused_last_by, refused_end, refused_behind}
 use Rattle.sdcl_dimacs.proofs.Telling.{leads_start, no_word_on, word_on, no_byte_answers}
 use Rattle.sdcl_io.specs.declared.reader.ByteError.TheVariants.{TooLong}
@@ -20,6 +20,7 @@ bytes-init g c = record {
   sound = search rules;
   given = search rules;
   onward = search rules;
+  steady = search rules;
   leads = leads_start _ _ _ _ (rw c.requires.empty c.new-parser.ensures) c.new-scanner.ensures;
   took = took_start _ _ _ (rw c.requires.empty c.new-parser.ensures) c.new-scanner.ensures;
   fits = search rules;
@@ -48,6 +49,7 @@ bytes-preserved-in_default-2 g c =
       sound = search rules;
       given = search rules;
       onward = onward_on (reading {G = g.W.World} c.args.reader.now) before after c.bytes.invariant.onward c.next_byte.ensures.gives.onward;
+      steady = search rules;
       leads = word_on limit (progress_of c.bytes.parser c.bytes.store) _ (scan_of c.bytes.scanner) _ _ before.rest after.rest c.in-Some.byte c.bytes.invariant.leads next less c.take_byte.ensures.scan word judged;
       took = took_word (progress_of c.bytes.parser c.bytes.store) _ (scan_of c.bytes.scanner) _ _ before.rest after.rest c.in-Some.byte c.bytes.invariant.took next c.take_byte.ensures.scan word judged;
       fits = search rules;
@@ -67,6 +69,7 @@ bytes-preserved g c =
       sound = search rules;
       given = search rules;
       onward = onward_on (reading {G = g.W.World} c.args.reader.now) before after c.bytes.invariant.onward c.next_byte.ensures.gives.onward;
+      steady = search rules;
       leads = no_word_on limit (progress_of c.bytes.parser c.bytes.store) (scan_of c.bytes.scanner) _ _ before.rest after.rest c.in-Some.byte c.bytes.invariant.leads next less c.take_byte.ensures.scan none;
       took = took_no_word (progress_of c.bytes.parser c.bytes.store) (scan_of c.bytes.scanner) _ _ before.rest after.rest c.in-Some.byte c.bytes.invariant.took next c.take_byte.ensures.scan none;
       fits = search rules;
@@ -139,3 +142,17 @@ returns-clause-refused g c =
           let took : TookOf q (scan_of c.bytes.scanner) (reading {G = g.W.World} c.args.reader.now).rest before.rest = rw (w.store-is, w.parser-is) c.bytes.invariant.took in
           refused_end limit q (scan_of c.bytes.scanner) _ before.rest after.rest c.end.result took next none ended
     ]
+
+pub returns-in-Some-3-clause-end : goal.returns-in-Some-3-clause-end
+returns-in-Some-3-clause-end g c =
+    let before = reading {G = g.W.World} c.bytes.reader in
+    let after = reading {G = g.W.World} c.next_byte.new.self in
+    let next : IsNext before.rest after.rest None = search rules in
+    took_end (progress_of c.bytes.parser c.bytes.store) (scan_of c.bytes.scanner) _ before.rest after.rest c.bytes.invariant.took next
+
+pub returns-clause-end : goal.returns-clause-end
+returns-clause-end g c =
+    let before = reading {G = g.W.World} c.bytes.reader in
+    let after = reading {G = g.W.World} c.next_byte.new.self in
+    let next : IsNext before.rest after.rest None = search rules in
+    when_ok c.end.result (took_end (progress_of c.bytes.parser c.bytes.store) (scan_of c.bytes.scanner) _ before.rest after.rest c.bytes.invariant.took next)

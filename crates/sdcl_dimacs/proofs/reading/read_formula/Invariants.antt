@@ -15,6 +15,7 @@ invariant-bytes g l = record {
   sound : (reading {G = g.W.World} l.reader).failed ≡ None;
   given : (reading {G = g.W.World} l.reader).given ≡ (scan_of l.scanner).at;
   onward : Onward (reading {G = g.W.World} l.initial.reader) (reading {G = g.W.World} l.reader);
+  steady : (reading {G = g.W.World} l.reader).world.read_faults (reading {G = g.W.World} l.initial.reader).role ≡ (reading {G = g.W.World} l.initial.reader).world.read_faults (reading {G = g.W.World} l.initial.reader).role;
   leads : Leads (reading {G = g.W.World} l.initial.reader).limit (progress_of l.parser l.store) (scan_of l.scanner) (reading {G = g.W.World} l.initial.reader).rest (reading {G = g.W.World} l.reader).rest;
   took : TookOf (progress_of l.parser l.store) (scan_of l.scanner) (reading {G = g.W.World} l.initial.reader).rest (reading {G = g.W.World} l.reader).rest;
   fits : Fits (progress_of l.parser l.store);
