@@ -6,6 +6,10 @@ use Rattle.sdcl_base.specs.Sets.{In, Sub, SubClauses}
 use Rattle.sdcl_base.specs.Propagation.{next, closure, refutes}
 use Rattle.sdcl_base.specs.Redundancy.{rup, rat, pr}
 
+-- the closure holds its start
+abbrev pub ClosureHolds : Type 0
+ClosureHolds = (f : List Clause) (s : Clause) → Sub s (closure f s)
+
 -- one round more adds nothing to the closure
 abbrev pub ClosureIsClosed : Type 0
 ClosureIsClosed = (f : List Clause) (s : Clause) → Sub (next f (closure f s)) (closure f s)

@@ -1,6 +1,7 @@
 //! Clauses.
 ghost use Rattle.std.specs.Prelude.{◌≡◌, ◌≤◌, true, [], All, IfOk, OnOk, length, slice_get};
 ghost use Rattle.sdcl_base.specs.Literal.{has};
+ghost use Rattle.sdcl_base.specs.Sets.{greatest_of};
 ghost use Rattle.sdcl_base.specs.Marks.{room_of, AreMarks, IsClear, firsts, no_repeats};
 
 use crate::lit::{Lit, NoMemory};
@@ -78,6 +79,7 @@ impl Clause {
 
 /// The greatest variable of the literals, or 0 where there are none.
 pub fn greatest_variable(lits: &[Lit]) -> u32
+    ensures value { result ≡ greatest_of lits.now }
     ensures bound { All (λ l. l.var ≤ result) lits.now }
     ensures small { result ≤ 4194303 }
 {
