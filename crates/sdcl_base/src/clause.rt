@@ -4,7 +4,7 @@ ghost use Rattle.sdcl_base.specs.Literal.{has};
 ghost use Rattle.sdcl_base.specs.Sets.{greatest_of};
 ghost use Rattle.sdcl_base.specs.Marks.{room_of, AreMarks, IsClear, firsts, no_repeats};
 
-use crate::lit::{Lit, NoMemory};
+use crate::lit::{Lit, MAX_VARIABLE, NoMemory};
 use crate::lit_set::LitSet;
 use std::alloc::Global;
 use std::marker::Model;
@@ -81,7 +81,7 @@ impl Clause {
 pub fn greatest_variable(lits: &[Lit]) -> u32
     ensures value { result ≡ greatest_of lits.now }
     ensures bound { All (λ l. l.var ≤ result) lits.now }
-    ensures small { result ≤ 4194303 }
+    ensures small { result ≤ MAX_VARIABLE }
 {
     let mut greatest = 0;
     for l in lits {

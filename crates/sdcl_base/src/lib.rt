@@ -13,6 +13,6 @@ mod tests;
 
 pub use assignment::Assignment;
 pub use clause::{Clause, greatest_variable};
-pub use lit::{ClauseId, Lit, MAX_VARIABLE, NoMemory};
+pub use lit::{ClauseId, Lit, MAX_CODE, MAX_VARIABLE, NoMemory};
 pub use lit_set::LitSet;
 pub use store::Store;

@@ -76,7 +76,7 @@ impl Store {
 // An empty set that covers the variables: the one that is kept, or a larger one.
 fn covering(alloc: Global, kept: Option<LitSet>, variables: u32) -> Result<LitSet, NoMemory>
     requires clear { IfSome kept (λ marks. IsClear marks) }
-    requires small { variables ≤ 4194303 }
+    requires small { variables ≤ MAX_VARIABLE }
     ensures clear { IfOk result (λ marks. IsClear marks) }
     ensures covers { IfOk result (λ marks. variables ≤ room_of marks) }
 {
