@@ -12,17 +12,7 @@ use Rattle.sdcl_prcheck.specs.declared.verdict.Verdict.{Verdict}
 use Rattle.sdcl.specs.Judging.{Judged}
 use Rattle.sdcl.proofs.Roles.{some_same, none_is_none}
 use Rattle.sdcl.specs.Proving.{OnlyProof}
-
-pub later_on : (s t u : Seen) → Later s t → Later t u → Later s u
-later_on s t u h k = record {
-  memory = k.memory ∙ h.memory;
-  tells = k.tells ∙ h.tells;
-  reads = λ r. omega (arith, h.reads r, k.reads r);
-  writes = λ r. omega (arith, h.writes r, k.writes r);
-  opens = λ r n. omega (arith, h.opens r n, k.opens r n);
-  creates = λ r n. omega (arith, h.creates r n, k.creates r n);
-  calm = λ c. k.calm (h.calm c);
-}
+use Rattle.sdcl.proofs.Later.{later_on}
 
 -- a new output holds no step
 pub nothing_held : (name : List ℕ) (s t : Seen) (r : Result Unit Failed) (x : Unit) → r ≡ Ok x → Creates Proof name s t r → HoldsSteps Proof t [] None
