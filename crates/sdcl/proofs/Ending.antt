@@ -1,9 +1,8 @@
 -- How a run ends, once its work is done: stated for every command at once.
-use Rattle.std.proofs.Common.{◌≡◌, ◌⊎◌, ◌∙◌, inl, inr, true, false, ℕ, List, [], ◌∷◌, Option, Some, None, Result, Err, IsTrue, take, refl, sym, ap, subst, arith}
+use Rattle.std.proofs.Common.{◌≡◌, ◌∙◌, inl, inr, true, false, ℕ, List, [], ◌∷◌, Err, IsTrue, take, refl, sym, subst, arith}
 use Rattle.std.specs.Io.KnownBytes.{Appends}
-use Rattle.sdcl_io.specs.declared.world.OutRole.{OutRole}
 use Rattle.sdcl_io.specs.declared.world.OutRole.TheVariants as output
-use Rattle.sdcl_io.specs.World.{Seen, Later, SameCounts, Calm}
+use Rattle.sdcl_io.specs.World.{Seen, Later, Calm}
 use Rattle.sdcl.specs.declared.status.Status.{Status}
 use Rattle.sdcl.specs.declared.status.Status.TheVariants as status
 use Rattle.sdcl.specs.declared.refusal.Place.{Place}
@@ -13,10 +12,10 @@ use Rattle.sdcl.specs.declared.refusal.Refusal.{Refusal}
 use Rattle.sdcl.specs.declared.refusal.Refusal.TheVariants.{Usage, Memory, At}
 use Rattle.sdcl.specs.declared.verdict.Verdict.{Verdict}
 use Rattle.sdcl.specs.Starting.{OutSame, NoComplaint}
-use Rattle.sdcl.specs.Refusals.{refusal_line, Says, Complains, SaysLine, SaysPrefix}
-use Rattle.sdcl.specs.Verdicts.{Prints, PrintsPart, IsUnprinted, text_of_verdict, status_of_verdict}
-use Rattle.sdcl.specs.Meaning.{Input, Output, Meaning, InputHas, OutputHas, AreUnopened, AnyInputHas, AnyOutputHas, AreSound, AreRead, AreWritten, OutPart, IsShown, Refused, HasVerdict, Ends, NothingFailed, Completes, KeepsRest, StaysCalm}
-use Rattle.sdcl.proofs.Roles.{out_not_err, err_not_out}
+use Rattle.sdcl.specs.Refusals.{refusal_line, Says, Complains, SaysLine}
+use Rattle.sdcl.specs.Verdicts.{Prints, text_of_verdict, status_of_verdict}
+use Rattle.sdcl.specs.Meaning.{Input, Output, Meaning, InputHas, OutputHas, AreUnopened, AnyInputHas, AnyOutputHas, AreSound, AreRead, AreWritten, OutPart, IsShown, Refused, Ends, NothingFailed, Completes, KeepsRest, StaysCalm}
+use Rattle.sdcl.proofs.Roles.{out_not_err}
 use Rattle.sdcl.proofs.Streams.{OnlyStreams, made_nothing}
 use Rattle.sdcl.proofs.Later.{later_on, calm_after}
 use Rattle.sdcl.proofs.Laws.{IsLawfulInput, AreLawfulInputs, IsLawful}

@@ -1,5 +1,5 @@
 -- What is written is read as the same steps.
-use Rattle.std.proofs.Common.{◌≡◌, ◌∙◌, ◌≤◌, ◌<◌, ℕ, zero, suc, List, [], ◌∷◌, length, inl, inr, refl, ap, subst, sym, arith}
+use Rattle.std.proofs.Common.{◌≡◌, ◌∙◌, ◌≤◌, ◌<◌, ℕ, zero, suc, List, [], ◌∷◌, length, inl, inr, refl, ap, arith}
 use Rattle.std.specs.Prelude.{All, slice_index_or}
 use Rattle.sdcl_base.specs.Literal.{Literal, Clause}
 use Rattle.sdcl_base.specs.Sets.{In}
@@ -7,7 +7,6 @@ use Rattle.sdcl_base.specs.Codes.{InRange}
 use Rattle.sdcl_io.specs.Step.{Step, Add, AddWitness, Delete, All as honoured, End, Verified, apply, judge}
 use Rattle.sdcl_proof.specs.declared.step.Dialect.TheVariants.{Pr}
 use Rattle.sdcl_proof.specs.Lines.{text_of}
-use Rattle.sdcl_proof.specs.ProofText.{proof_text}
 use Rattle.sdcl_proof.specs.Steps.{IsClean, IsFormed}
 use Rattle.sdcl_proof.specs.RoundTrip.{AreFormed}
 use Rattle.sdcl_proof.proofs.RoundTrip.{round_trip}

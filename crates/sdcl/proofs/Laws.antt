@@ -1,5 +1,5 @@
 -- What each command must have, so that all that is stated once holds of it.
-use Rattle.std.proofs.Common.{◌≡◌, ℕ, List, [], ◌∷◌}
+use Rattle.std.proofs.Common.{ℕ, List, [], ◌∷◌}
 use Rattle.std.specs.Prelude.{⊤}
 use Rattle.sdcl_io.specs.World.{Seen}
 use Rattle.sdcl.specs.declared.verdict.Verdict.{Verdict}

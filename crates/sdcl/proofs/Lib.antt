@@ -5,10 +5,9 @@ pub mod Reading
 pub mod Roles
 pub mod Later
 pub mod Streams
-pub mod Phases
+pub mod Making
 pub mod Laws
 pub mod Ending
-pub mod Loaded
 pub mod Solved
 pub mod Checked
 pub mod Lasting

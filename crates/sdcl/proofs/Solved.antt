@@ -1,50 +1,28 @@
 -- What the phases of `solve` together did.
-use Rattle.std.proofs.Common.{◌≡◌, ◌⊎◌, ◌∙◌, inl, inr, ℕ, List, Option, Some, None, Result, Ok, Err, IsTrue, refl, sym, subst, arith}
+use Rattle.std.proofs.Common.{◌≡◌, ◌∙◌, inl, ℕ, List, Some, None, Result, Ok, IsTrue, refl, sym, subst}
 use Rattle.sdcl_base.specs.Literal.{Clause}
 use Rattle.sdcl_io.specs.declared.world.InRole.TheVariants as input
 use Rattle.sdcl_io.specs.declared.world.OutRole.TheVariants as output
-use Rattle.sdcl_io.specs.World.{Seen, OnlyRead, Unchanged}
-use Rattle.sdcl_io.specs.Step.{Step, All, End}
+use Rattle.sdcl_io.specs.World.{Seen, OnlyRead}
+use Rattle.sdcl_io.specs.Step.{All, End}
 use Rattle.sdcl_io.proofs.Refuted.{verified_law}
-use Rattle.sdcl_proof.specs.Files.{HoldsSteps}
-use Rattle.sdcl_outer.specs.Outcome.{Ends as Concludes, NewSteps}
 use Rattle.sdcl_outer.specs.declared.solving.Answer.{Answer}
 use Rattle.sdcl_outer.specs.declared.solving.Answer.TheVariants as answer
 use Rattle.sdcl.specs.declared.loading.Loaded.{Loaded}
 use Rattle.sdcl.specs.declared.solving.TheConstants.{BUDGET}
-use Rattle.sdcl.specs.declared.verdict.Verdict.{Verdict}
 use Rattle.sdcl.specs.declared.verdict.Verdict.TheVariants as verdict
-use Rattle.sdcl.specs.declared.refusal.Trouble.{Trouble}
-use Rattle.sdcl.specs.declared.refusal.Trouble.TheVariants as trouble
 use Rattle.sdcl.specs.declared.refusal.Refusal.{Refusal}
-use Rattle.sdcl.specs.declared.refusal.Refusal.TheVariants.{Usage, Memory, At}
 use Rattle.sdcl.specs.Commands.{Names}
-use Rattle.sdcl.specs.Loading.{Loads, IsLoaded, IsReadOut, IsAccepted}
-use Rattle.sdcl.specs.Proving.{Proves, Finds, WritesPart, IsMade, OnlyProof, proof_out}
+use Rattle.sdcl.specs.Loading.{Loads, IsLoaded, IsReadOut}
+use Rattle.sdcl.specs.Proving.{Proves, Finds, IsMade, OnlyProof}
 use Rattle.sdcl.specs.Verdicts.{CanPrint}
-use Rattle.sdcl.specs.Starting.{IsFresh, MadeNothing}
-use Rattle.sdcl.specs.Meaning.{OutputHas, OutputRefuses, Refused, KeepsRest, Performs}
-use Rattle.sdcl.specs.Solving.{AreRefutation, HoldsProof, Solves, solving, verdict_of_answer}
+use Rattle.sdcl.specs.Starting.{IsFresh}
+use Rattle.sdcl.specs.Meaning.{KeepsRest, Performs}
+use Rattle.sdcl.specs.Solving.{AreRefutation, Solves, solving, verdict_of_answer}
 use Rattle.sdcl.proofs.Roles.{err_not_proof, out_not_proof, some_same}
 use Rattle.sdcl.proofs.Formed.{read_back}
 use Rattle.sdcl.proofs.Later.{later_on, calm_after}
-use Rattle.sdcl.proofs.Streams.{one_read, read_nothing_made, failed_on, keeps_reading}
-use Rattle.sdcl.proofs.Loaded.{formula_refused}
 
--- ---- the formula was not read
-
-pub not_loaded : {names : Names} {s t : Seen} {q : Result Loaded Refusal} {e : Refusal} → IsFresh s → q ≡ Err e → Loads names.formula s t q → Performs (solving names) s t (Err e)
-not_loaded {names} {s} {t} {q} {e} fresh d h =
-    let loads : Loads names.formula s t (Err e) = subst (Loads names.formula s t) d h in
-    record {
-      ok = tt;
-      err = formula_refused (solving names) names.formula _ s t e (λ p x i. inl i) (λ n. inl n) tt fresh loads.only loads.err;
-      out = loads.only.outputs output.Out;
-      silent = loads.only.outputs output.Err;
-      there = (loads.only.there output.Out, loads.only.there output.Err);
-      keeps = keeps_reading (one_read loads.only);
-      calm = λ calm told. loads.calm told.0 calm;
-    }
 
 -- ---- what the phases together leave as it was
 
@@ -68,36 +46,8 @@ keeps names n f s0 s1 s2 p = record {
   later = later_on s0 s1 s2 p.read.later p.only.later;
 }
 
--- ---- the proof was not made, or not written
-
-output_has : (names : Names) (s0 s1 s2 : Seen) (x : Trouble) → OnlyRead input.Formula s0 s1 → OutputHas (proof_out names.proof (λ u. Unit {0})) s1 s2 x
-    → OutputHas (proof_out names.proof (IsAccepted names.formula)) s0 s2 x
-output_has names s0 s1 s2 trouble.Open o h =
-    (omega (arith, h.0, o.later.creates output.Proof names.proof), record { there = h.1.there ∙ o.there output.Proof; file = h.1.file ∙ o.files names.proof })
-output_has names s0 s1 s2 trouble.Read o h = h
-output_has names s0 s1 s2 trouble.Write o h = (omega (arith, h.0, o.later.writes output.Proof), h.1)
-output_has names s0 s1 s2 (trouble.Fault kind offset) o h = h
-output_has names s0 s1 s2 (trouble.Over limit) o h = h
-
-leaves : (names : Names) (n : ℕ) (f : List Clause) (s0 s1 s2 : Seen) → Phases names n f s0 s1 s2 → Unchanged s1 s2 ⊎ (IsMade names.proof s2 × WritesPart n BUDGET f s2)
-    → MadeNothing s0 s2 ⊎ HoldsProof names s0 s2
-leaves names n f s0 s1 s2 p (inl h) = inl (failed_on (read_nothing_made p.fresh (one_read p.read)) h)
-leaves names n f s0 s1 s2 p (inr h) = inr (record { variables = n; clauses = f; text = p.loaded.text; made = h.0; written = h.1 })
-
 out_same : (names : Names) (n : ℕ) (f : List Clause) (s0 s1 s2 : Seen) → Phases names n f s0 s1 s2 → s2.held output.Out ≡ s0.held output.Out
 out_same names n f s0 s1 s2 p = p.only.outputs output.Out out_not_proof ∙ p.read.outputs output.Out
-
-refused : (names : Names) (n : ℕ) (f : List Clause) (s0 s1 s2 : Seen) (e : Refusal) → Phases names n f s0 s1 s2 → OutputRefuses (proof_out names.proof (λ u. Unit {0})) s1 s2 e
-    → Unchanged s1 s2 ⊎ (IsMade names.proof s2 × WritesPart n BUDGET f s2) → Refused (solving names) s0 s2 e
-refused names n f s0 s1 s2 Usage p h l = absurd h
-refused names n f s0 s1 s2 Memory p h l = record { shown = inl (out_same names n f s0 s1 s2 p); leaves = leaves names n f s0 s1 s2 p l }
-refused names n f s0 s1 s2 (At q x) p h l = record {
-  shown = inr (inl (record {
-    has = inl (record { place = h.0; before = record { variables = n; clauses = f; text = p.loaded.text }; has = output_has names s0 s1 s2 x p.read h.1 });
-    out = out_same names n f s0 s1 s2 p;
-  }));
-  leaves = leaves names n f s0 s1 s2 p l;
-}
 
 -- ---- a verdict
 
@@ -130,22 +80,6 @@ phases : {names : Names} {loaded : Loaded} {s0 s1 s2 : Seen} {q : Result Loaded 
 phases {names} {loaded} {s0} {s1} {s2} fresh differ d h k =
     let read : Loads names.formula s0 s1 (Ok loaded) = subst (Loads names.formula s0 s1) d h in
     record { fresh = fresh; differ = differ; read = read.only; read_out = read.read_out; stands = read.stands; loaded = read.ok; only = k.only }
-
--- no answer
-pub not_solved : {names : Names} {loaded : Loaded} {s0 s1 s2 : Seen} {q : Result Loaded Refusal} {u : Result Answer Refusal} {e : Refusal} → IsFresh s0 → (names.formula ≡ names.proof → ⊥) → q ≡ Ok loaded
-    → u ≡ Err e → Loads names.formula s0 s1 q → Proves names.proof loaded.variables BUDGET loaded.store s1 s2 u → Performs (solving names) s0 s2 (Err e)
-not_solved {names} {loaded} {s0} {s1} {s2} {q} {u} {e} fresh differ d b h k =
-    let p : Phases names loaded.variables loaded.store s0 s1 s2 = phases fresh differ d h k in
-    let proved : Proves names.proof loaded.variables BUDGET loaded.store s1 s2 (Err e) = subst (Proves names.proof loaded.variables BUDGET loaded.store s1 s2) b k in
-    record {
-      ok = tt;
-      err = refused names loaded.variables loaded.store s0 s1 s2 e p proved.err proved.left;
-      out = out_same names loaded.variables loaded.store s0 s1 s2 p;
-      silent = p.only.outputs output.Err err_not_proof ∙ p.read.outputs output.Err;
-      there = (p.only.there output.Out out_not_proof ∙ p.read.there output.Out, p.only.there output.Err err_not_proof ∙ p.read.there output.Err);
-      keeps = keeps names loaded.variables loaded.store s0 s1 s2 p;
-      calm = λ calm told. calm_after (h.calm told.0) p.read.later k.calm calm;
-    }
 
 pub solved : {names : Names} {loaded : Loaded} {a : Answer} {s0 s1 s2 : Seen} {q : Result Loaded Refusal} {u : Result Answer Refusal} → IsFresh s0 → (names.formula ≡ names.proof → ⊥) → q ≡ Ok loaded
     → u ≡ Ok a → Loads names.formula s0 s1 q → Proves names.proof loaded.variables BUDGET loaded.store s1 s2 u → Performs (solving names) s0 s2 (Ok (verdict_of_answer loaded.variables a))

@@ -5,7 +5,7 @@ use Rattle.sdcl_base.specs.Truth.{Unsatisfiable}
 use Rattle.sdcl_io.specs.declared.world.InRole.TheVariants as input
 use Rattle.sdcl_io.specs.World.{Seen}
 use Rattle.sdcl_io.specs.Step.{Step, Fault, Over, Judgement, Ended, ValidSteps}
-use Rattle.sdcl_dimacs.specs.FormulaText.{Accepted, formula_text}
+use Rattle.sdcl_dimacs.specs.FormulaText.{Accepted}
 use Rattle.sdcl_prcheck.specs.Checking.{Bears}
 use Rattle.sdcl_prcheck.specs.declared.verdict.Verdict.{Verdict as Found}
 use Rattle.sdcl_prcheck.specs.declared.verdict.Verdict.TheVariants as found

@@ -1,5 +1,5 @@
 -- What a command is to do, and what it means that a run of it ended so. A command is one `Meaning`; all else is stated once.
-use Rattle.std.specs.Prelude.{◌≡◌, ◌⊎◌, ◌<◌, ⊤, ℕ, Bool, true, false, List, [], ◌∷◌, length, take, None, IsTrue, IsSome, Result, IfOk, IfErr}
+use Rattle.std.specs.Prelude.{◌≡◌, ◌⊎◌, ⊤, ℕ, Bool, true, false, List, [], ◌∷◌, None, IsTrue, IsSome, Result, IfOk, IfErr}
 use Rattle.std.specs.Io.KnownBytes.{Appends}
 use Rattle.sdcl_io.specs.declared.world.InRole.{InRole}
 use Rattle.sdcl_io.specs.declared.world.OutRole.{OutRole}

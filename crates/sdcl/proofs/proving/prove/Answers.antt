@@ -1,4 +1,4 @@
-use Rattle.sdcl.proofs.Phases.{nothing_held}
+use Rattle.sdcl.proofs.Making.{nothing_held}
 use Rattle.sdcl.proofs.proving.prove.Goals as goal
 
 pub solve_into_file-requires-clause-empty : goal.solve_into_file-requires-clause-empty
