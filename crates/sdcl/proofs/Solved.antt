@@ -23,7 +23,6 @@ use Rattle.sdcl.proofs.Roles.{err_not_proof, out_not_proof, some_same}
 use Rattle.sdcl.proofs.Formed.{read_back}
 use Rattle.sdcl.proofs.Later.{later_on, calm_after}
 
-
 -- ---- what the phases together leave as it was
 
 -- the formula was read, and the proof made and written
