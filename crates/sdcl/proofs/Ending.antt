@@ -1,233 +1,165 @@
--- A refusal that was said.
-use Rattle.std.proofs.Common.{◌≡◌, ◌∙◌, ◌≤◌, inl, inr, take, Option, Some, None, Result, Err, IsTrue, sym, ap, subst, arith}
+-- How a run ends, once its work is done: stated for every command at once.
+use Rattle.std.proofs.Common.{◌≡◌, ◌∙◌, inl, inr, true, false, ℕ, List, [], ◌∷◌, Err, IsTrue, take, refl, sym, subst, arith}
 use Rattle.std.specs.Io.KnownBytes.{Appends}
-use Rattle.sdcl_io.specs.declared.world.InRole.TheVariants as input
 use Rattle.sdcl_io.specs.declared.world.OutRole.TheVariants as output
-use Rattle.sdcl_io.specs.World.{Seen, OnlyWrote}
+use Rattle.sdcl_io.specs.World.{Seen, Later, Calm}
 use Rattle.sdcl.specs.declared.status.Status.{Status}
 use Rattle.sdcl.specs.declared.status.Status.TheVariants as status
-use Rattle.sdcl.specs.declared.refusal.Place.TheVariants as place
+use Rattle.sdcl.specs.declared.refusal.Place.{Place}
+use Rattle.sdcl.specs.declared.refusal.Trouble.{Trouble}
+use Rattle.sdcl.specs.declared.refusal.Trouble.TheVariants as trouble
 use Rattle.sdcl.specs.declared.refusal.Refusal.{Refusal}
-use Rattle.sdcl.specs.declared.refusal.Refusal.TheVariants as refusal
-use Rattle.sdcl.specs.Commands.{Names, Plan, Solve, Check}
-use Rattle.sdcl.specs.Refusals.{status_of, refusal_line, Complains}
-use Rattle.sdcl.specs.Printing.{text_of_answer, text_of_verdict}
-use Rattle.sdcl.specs.Starting.{NoComplaint, NoProof, MadeNothing}
-use Rattle.sdcl.specs.Solving.{budget, SolveCause, Solved, HoldsPrefix}
-use Rattle.sdcl.specs.Checking.{CheckCause, Checks, ProofUnopened}
-use Rattle.sdcl.specs.Running.{Cause, Ends, OutPrefix, OutSame, OutStays, Refuses, Performs, Attempts, Runs, Texts}
-use Rattle.sdcl.proofs.Roles.{proof_not_err, out_not_err}
-use Rattle.sdcl.proofs.Making.{wrote_on}
-use Rattle.sdcl.proofs.Solved.{lawful_stays, steps_stay}
+use Rattle.sdcl.specs.declared.refusal.Refusal.TheVariants.{Usage, Memory, At}
+use Rattle.sdcl.specs.declared.verdict.Verdict.{Verdict}
+use Rattle.sdcl.specs.Starting.{OutSame, NoComplaint}
+use Rattle.sdcl.specs.Refusals.{refusal_line, Says, Complains, SaysLine}
+use Rattle.sdcl.specs.Verdicts.{Prints, text_of_verdict, status_of_verdict}
+use Rattle.sdcl.specs.Meaning.{Input, Output, Meaning, InputHas, OutputHas, AreUnopened, AnyInputHas, AnyOutputHas, AreSound, AreRead, AreWritten, OutPart, IsShown, Refused, Ends, NothingFailed, Completes, KeepsRest, StaysCalm}
+use Rattle.sdcl.proofs.Roles.{out_not_err}
+use Rattle.sdcl.proofs.Streams.{OnlyStreams, made_nothing}
+use Rattle.sdcl.proofs.Later.{later_on, calm_after}
+use Rattle.sdcl.proofs.Laws.{IsLawfulInput, AreLawfulInputs, IsLawful}
 
--- ---- what stays while the refusal is said
+-- ---- a refusal stays shown while a line is said
 
-prefix_stays : (names : Names) (s t u : Seen) → OnlyWrote output.Err t u → HoldsPrefix names s t → HoldsPrefix names s u
-prefix_stays names s t u w h = (h.0, h.1, h.2, lawful_stays h.0 budget h.1 t u w.later.tells (w.outputs output.Proof proof_not_err) (w.there output.Proof) h.3)
+input_has : (i : Input) (s t u : Seen) (x : Trouble) → Later t u → InputHas i s t x → InputHas i s u x
+input_has i s t u trouble.Open w h = omega (arith, h, w.opens i.role i.name)
+input_has i s t u trouble.Read w h = omega (arith, h, w.reads i.role)
+input_has i s t u trouble.Write w h = h
+input_has i s t u (trouble.Fault kind offset) w h = h
+input_has i s t u (trouble.Over limit) w h = h
 
-no_proof_stays : (t u : Seen) → OnlyWrote output.Err t u → NoProof t → NoProof u
-no_proof_stays t u w h there = h (subst IsTrue (w.there output.Proof) there)
+output_has : (o : Output) (s t u : Seen) (x : Trouble) → OnlyStreams t u → OutputHas o s t x → OutputHas o s u x
+output_has o s t u trouble.Open w h =
+    (omega (arith, h.0, w.later.creates o.role o.name), record { there = w.there o.role ∙ h.1.there; file = w.files o.name ∙ h.1.file })
+output_has o s t u trouble.Read w h = h
+output_has o s t u trouble.Write w h = (omega (arith, h.0, w.later.writes o.role), subst IsTrue (sym (w.there o.role)) h.1)
+output_has o s t u (trouble.Fault kind offset) w h = h
+output_has o s t u (trouble.Over limit) w h = h
 
-unopened_stays : (s t u : Seen) → OnlyWrote output.Err t u → ProofUnopened s t → ProofUnopened s u
-unopened_stays s t u w h = (w.opened input.Proof ∙ h.0, w.stand input.Proof ∙ h.1)
+unopened : (is : List Input) (s t u : Seen) → OnlyStreams t u → AreUnopened is s t → AreUnopened is s u
+unopened [] s t u w h = tt
+unopened (i ∷ is) s t u w h = ((w.opened i.role ∙ h.0.0, w.stand i.role ∙ h.0.1), unopened is s t u w h.1)
 
-solve_stays : (names : Names) (s t u : Seen) (e : Refusal) → OnlyWrote output.Err t u → SolveCause names s t e → SolveCause names s u e
-solve_stays names s t u refusal.Usage w h = h
-solve_stays names s t u (refusal.FormulaGrammar fault) w h = (h.0, no_proof_stays t u w h.1)
-solve_stays names s t u (refusal.ProofGrammar fault) w h = h
-solve_stays names s t u (refusal.Open place.Formula) w h = (omega (arith, h.0, w.later.opens input.Formula names.formula), no_proof_stays t u w h.1)
-solve_stays names s t u (refusal.Open place.Proof) w h = (omega (arith, h.0, w.later.creates output.Proof names.proof), no_proof_stays t u w h.1)
-solve_stays names s t u (refusal.Open place.Out) w h = h
-solve_stays names s t u (refusal.Read input.Formula) w h = (omega (arith, h.0, w.later.reads input.Formula), no_proof_stays t u w h.1)
-solve_stays names s t u (refusal.Read input.Proof) w h = h
-solve_stays names s t u (refusal.Write place.Formula) w h = h
-solve_stays names s t u (refusal.Write place.Proof) w h = (omega (arith, h.0, w.later.writes output.Proof), prefix_stays names s t u w h.1)
-solve_stays names s t u (refusal.Write place.Out) w h = (omega (arith, h.0, w.later.writes output.Out), prefix_stays names s t u w h.1)
-solve_stays names s t u refusal.Memory w (inl h) = inl (no_proof_stays t u w h)
-solve_stays names s t u refusal.Memory w (inr h) = inr (prefix_stays names s t u w h)
-solve_stays names s t u (refusal.Over input.Formula) w h = (h.0, no_proof_stays t u w h.1)
-solve_stays names s t u (refusal.Over input.Proof) w h = h
+any_input : (is : List Input) (s t u : Seen) (p : Place) (x : Trouble) → OnlyStreams t u → AnyInputHas is s t p x → AnyInputHas is s u p x
+any_input [] s t u p x w h = absurd h
+any_input (i ∷ is) s t u p x w (inl h) = inl (record { place = h.place; before = h.before; has = input_has i s t u x w.later h.has; unopened = unopened is s t u w h.unopened })
+any_input (i ∷ is) s t u p x w (inr h) = inr (any_input is s t u p x w h)
 
-nothing_stays : (s t u : Seen) → s.named output.Err ≡ None → OnlyWrote output.Err t u → MadeNothing s t → MadeNothing s u
-nothing_stays s t u d w h = wrote_on output.Err s t u d (λ r out err. err) h w
+any_output : (os : List Output) (s t u : Seen) (p : Place) (x : Trouble) → OnlyStreams t u → AnyOutputHas os s t p x → AnyOutputHas os s u p x
+any_output [] s t u p x w h = absurd h
+any_output (o ∷ os) s t u p x w (inl h) = inl (record { place = h.place; before = h.before; has = output_has o s t u x w h.has })
+any_output (o ∷ os) s t u p x w (inr h) = inr (any_output os s t u p x w h)
 
-check_stays : (names : Names) (s t u : Seen) (e : Refusal) → s.named output.Err ≡ None → OnlyWrote output.Err t u → CheckCause names s t e → CheckCause names s u e
-check_stays names s t u refusal.Usage d w h = h
-check_stays names s t u (refusal.FormulaGrammar fault) d w h = (h.0, unopened_stays s t u w h.1, nothing_stays s t u d w h.2)
-check_stays names s t u (refusal.ProofGrammar fault) d w h = (h.0, nothing_stays s t u d w h.1)
-check_stays names s t u (refusal.Open place.Formula) d w h = (omega (arith, h.0, w.later.opens input.Formula names.formula), unopened_stays s t u w h.1, nothing_stays s t u d w h.2)
-check_stays names s t u (refusal.Open place.Proof) d w h = (omega (arith, h.0, w.later.opens input.Proof names.proof), h.1, nothing_stays s t u d w h.2)
-check_stays names s t u (refusal.Open place.Out) d w h = h
-check_stays names s t u (refusal.Read input.Formula) d w h = (omega (arith, h.0, w.later.reads input.Formula), unopened_stays s t u w h.1, nothing_stays s t u d w h.2)
-check_stays names s t u (refusal.Read input.Proof) d w h = (omega (arith, h.0, w.later.reads input.Proof), h.1, nothing_stays s t u d w h.2)
-check_stays names s t u (refusal.Write place.Formula) d w h = h
-check_stays names s t u (refusal.Write place.Proof) d w h = h
-check_stays names s t u (refusal.Write place.Out) d w h = (omega (arith, h.0, w.later.writes output.Out), nothing_stays s t u d w h.1)
-check_stays names s t u refusal.Memory d w h = nothing_stays s t u d w h
-check_stays names s t u (refusal.Over input.Formula) d w h = (h.0, unopened_stays s t u w h.1, nothing_stays s t u d w h.2)
-check_stays names s t u (refusal.Over input.Proof) d w h = (h.0, nothing_stays s t u d w h.1)
-
-cause_stays : (plan : Plan) (s t u : Seen) (e : Refusal) → s.named output.Err ≡ None → OnlyWrote output.Err t u → Cause plan s t e → Cause plan s u e
-cause_stays (Solve names) s t u e d w h = solve_stays names s t u e w h
-cause_stays (Check names) s t u e d w h = check_stays names s t u e d w h
-
--- ---- where memory is wanted for the saying
-
-solve_wants : (names : Names) (s t : Seen) (e : Refusal) → SolveCause names s t e → SolveCause names s t refusal.Memory
-solve_wants names s t refusal.Usage h = absurd h
-solve_wants names s t (refusal.FormulaGrammar fault) h = inl h.1
-solve_wants names s t (refusal.ProofGrammar fault) h = absurd h
-solve_wants names s t (refusal.Open place.Formula) h = inl h.1
-solve_wants names s t (refusal.Open place.Proof) h = inl h.1
-solve_wants names s t (refusal.Open place.Out) h = absurd h
-solve_wants names s t (refusal.Read input.Formula) h = inl h.1
-solve_wants names s t (refusal.Read input.Proof) h = absurd h
-solve_wants names s t (refusal.Write place.Formula) h = absurd h
-solve_wants names s t (refusal.Write place.Proof) h = inr h.1
-solve_wants names s t (refusal.Write place.Out) h = inr h.1
-solve_wants names s t refusal.Memory h = h
-solve_wants names s t (refusal.Over input.Formula) h = inl h.1
-solve_wants names s t (refusal.Over input.Proof) h = absurd h
-
-check_wants : (names : Names) (s t : Seen) (e : Refusal) → CheckCause names s t e → MadeNothing s t
-check_wants names s t refusal.Usage h = absurd h
-check_wants names s t (refusal.FormulaGrammar fault) h = h.2
-check_wants names s t (refusal.ProofGrammar fault) h = h.1
-check_wants names s t (refusal.Open place.Formula) h = h.2
-check_wants names s t (refusal.Open place.Proof) h = h.2
-check_wants names s t (refusal.Open place.Out) h = absurd h
-check_wants names s t (refusal.Read input.Formula) h = h.2
-check_wants names s t (refusal.Read input.Proof) h = h.2
-check_wants names s t (refusal.Write place.Formula) h = absurd h
-check_wants names s t (refusal.Write place.Proof) h = absurd h
-check_wants names s t (refusal.Write place.Out) h = h.1
-check_wants names s t refusal.Memory h = h
-check_wants names s t (refusal.Over input.Formula) h = h.2
-check_wants names s t (refusal.Over input.Proof) h = h.1
-
-memory_wanted : (plan : Plan) (s t : Seen) (e : Refusal) → Cause plan s t e → Cause plan s t refusal.Memory
-memory_wanted (Solve names) s t e h = solve_wants names s t e h
-memory_wanted (Check names) s t e h = check_wants names s t e h
-
--- ---- the status of a cause
-
-solve_status : (names : Names) (s t : Seen) (e : Refusal) → SolveCause names s t e → Solved names s t (status_of e)
-solve_status names s t refusal.Usage h = h
-solve_status names s t (refusal.FormulaGrammar fault) h = (fault, h)
-solve_status names s t (refusal.ProofGrammar fault) h = absurd h
-solve_status names s t (refusal.Open place.Formula) h = inl h
-solve_status names s t (refusal.Open place.Proof) h = inr h
-solve_status names s t (refusal.Open place.Out) h = absurd h
-solve_status names s t (refusal.Read input.Formula) h = h
-solve_status names s t (refusal.Read input.Proof) h = absurd h
-solve_status names s t (refusal.Write place.Formula) h = absurd h
-solve_status names s t (refusal.Write place.Proof) h = inl h
-solve_status names s t (refusal.Write place.Out) h = inr h
-solve_status names s t refusal.Memory h = h
-solve_status names s t (refusal.Over input.Formula) h = h
-solve_status names s t (refusal.Over input.Proof) h = absurd h
-
-check_status : (names : Names) (s t : Seen) (e : Refusal) → CheckCause names s t e → Checks names s t (status_of e)
-check_status names s t refusal.Usage h = h
-check_status names s t (refusal.FormulaGrammar fault) h = inl (fault, h)
-check_status names s t (refusal.ProofGrammar fault) h = inr (fault, h)
-check_status names s t (refusal.Open place.Formula) h = inl h
-check_status names s t (refusal.Open place.Proof) h = inr h
-check_status names s t (refusal.Open place.Out) h = absurd h
-check_status names s t (refusal.Read input.Formula) h = inl h
-check_status names s t (refusal.Read input.Proof) h = inr h
-check_status names s t (refusal.Write place.Formula) h = absurd h
-check_status names s t (refusal.Write place.Proof) h = absurd h
-check_status names s t (refusal.Write place.Out) h = h
-check_status names s t refusal.Memory h = h
-check_status names s t (refusal.Over input.Formula) h = inl h
-check_status names s t (refusal.Over input.Proof) h = inr h
-
-by_status : (plan : Plan) (s t : Seen) (e : Refusal) → Cause plan s t e → Ends plan s t (status_of e)
-by_status (Solve names) s t e h = solve_status names s t e h
-by_status (Check names) s t e h = check_status names s t e h
-
--- a run that said why it ended
-complained : (plan : Plan) (s t u : Seen) (e : Refusal) (result : Status) → s.named output.Err ≡ None → Cause plan s t e → OnlyWrote output.Err t u → Complains e t u result → Ends plan s u result
-complained plan s t u e result d h w (inl q) = subst (Ends plan s u) (sym q.0) (by_status plan s u e (cause_stays plan s t u e d w h))
-complained plan s t u e result d h w (inr q) = subst (Ends plan s u) (sym q.0) (by_status plan s u refusal.Memory (memory_wanted plan s u e (cause_stays plan s t u e d w h)))
-
-said : (s t u : Seen) (e : Refusal) (result : Status) → NoComplaint s t → s.write_faults output.Err ≤ t.write_faults output.Err → Complains e t u result → Complains e s u result
-said s t u e result h w (inl (d, inl k)) = inl (d, inl (subst (λ x. Appends x (u.held output.Err) (refusal_line e)) h k))
-said s t u e result h w (inl (d, inr k)) = inl (d, inr (k.0, k.1, subst (λ x. Appends x (u.held output.Err) (take k.0 (refusal_line e))) h k.2, omega (arith, k.3, w)))
-said s t u e result h w (inr (d, k)) = inr (d, (k.0, k.1, subst (λ x. Appends x (u.held output.Err) (take k.0 (refusal_line e))) h k.2))
-
--- ---- what standard output got
-
-out_prefix : (plan : Plan) (s t u : Seen) → OnlyWrote output.Err t u → OutPrefix plan s t → OutPrefix plan s u
-out_prefix (Solve names) s t u w k = record {
-  variables = k.variables;
-  clauses = k.clauses;
-  steps = k.steps;
-  found = k.found;
-  text = k.text;
-  valid = k.valid;
-  written = steps_stay t u k.steps None w.later.tells (w.outputs output.Proof proof_not_err) k.written;
-  bears = k.bears;
-  bytes = k.bytes;
-  proper = k.proper;
-  printed = subst (λ x. Appends (s.held output.Out) x (take k.bytes (text_of_answer k.variables k.found))) (sym (w.outputs output.Out out_not_err)) k.printed;
-}
-out_prefix (Check names) s t u w k = record {
-  verdict = k.verdict;
-  judgement = k.judgement;
-  bytes = k.bytes;
-  proper = k.proper;
-  printed = subst (λ x. Appends (s.held output.Out) x (take k.bytes (text_of_verdict k.verdict))) (sym (w.outputs output.Out out_not_err)) k.printed;
+out_part : (m : Meaning) (s t u : Seen) → IsLawful m → OnlyStreams t u → u.held output.Out ≡ t.held output.Out → OutPart m s t → OutPart m s u
+out_part m s t u k w e h = record {
+  verdict = h.verdict;
+  gives = k.gives s t u h.verdict w h.gives;
+  part = (h.part.0, h.part.1, subst (λ x. Appends (s.held output.Out) x (take h.part.0 (text_of_verdict h.verdict))) (sym e) h.part.2);
 }
 
-quiet : (plan : Plan) (s t u : Seen) (e : Refusal) → OnlyWrote output.Err t u → OutStays plan e s t → OutStays plan e s u
-quiet plan s t u refusal.Usage w k = w.outputs output.Out out_not_err ∙ k
-quiet plan s t u (refusal.FormulaGrammar fault) w k = w.outputs output.Out out_not_err ∙ k
-quiet plan s t u (refusal.ProofGrammar fault) w k = w.outputs output.Out out_not_err ∙ k
-quiet plan s t u (refusal.Open where') w k = w.outputs output.Out out_not_err ∙ k
-quiet plan s t u (refusal.Read role) w k = w.outputs output.Out out_not_err ∙ k
-quiet plan s t u (refusal.Write place.Formula) w k = w.outputs output.Out out_not_err ∙ k
-quiet plan s t u (refusal.Write place.Proof) w k = w.outputs output.Out out_not_err ∙ k
-quiet plan s t u (refusal.Write place.Out) w k = out_prefix plan s t u w k
-quiet plan s t u refusal.Memory w (inl k) = inl (w.outputs output.Out out_not_err ∙ k)
-quiet plan s t u refusal.Memory w (inr k) = inr (out_prefix plan s t u w k)
-quiet plan s t u (refusal.Over role) w k = w.outputs output.Out out_not_err ∙ k
+shown : (m : Meaning) (s t u : Seen) (e : Refusal) → IsLawful m → OnlyStreams t u → u.held output.Out ≡ t.held output.Out → IsShown m s t e → IsShown m s u e
+shown m s t u Usage k w q h = (h.0, q ∙ h.1)
+shown m s t u Memory k w q (inl h) = inl (q ∙ h)
+shown m s t u Memory k w q (inr h) = inr (out_part m s t u k w q h)
+shown m s t u (At p x) k w q (inl h) = inl (record { has = any_input m.reads s t u p x w h.has; made_nothing = made_nothing w h.made_nothing; out = q ∙ h.out })
+shown m s t u (At p x) k w q (inr (inl h)) = inr (inl (record { has = any_output m.makes s t u p x w h.has; out = q ∙ h.out }))
+shown m s t u (At p x) k w q (inr (inr h)) =
+    inr (inr (record { place = h.place; trouble = h.trouble; rose = omega (arith, h.rose, w.later.writes output.Out); out = out_part m s t u k w q h.out }))
 
--- ---- the whole run
+-- a line behind a run that said nothing
+says_line : (s t u : Seen) (line : List ℕ) → NoComplaint s t → Later s t → SaysLine line t u → SaysLine line s u
+says_line s t u line q l (inl h) = inl (subst (λ x. Appends x (u.held output.Err) line) q h)
+says_line s t u line q l (inr h) = inr (h.0, h.1, subst (λ x. Appends x (u.held output.Err) (take h.0 line)) q h.2, omega (arith, h.3, l.writes output.Err))
 
-texts_of : (plan : Plan) (s u : Seen) (result : Status) → Refuses plan s u result → Texts (Some plan) s u result
-texts_of plan s u status.Unknown h = tt
-texts_of plan s u status.Verified h = tt
-texts_of plan s u status.NotVerified h = tt
-texts_of plan s u status.Satisfiable h = tt
-texts_of plan s u status.Unsatisfiable h = tt
-texts_of plan s u status.Usage h = h
-texts_of plan s u status.Grammar h = h
-texts_of plan s u status.OpenFault h = h
-texts_of plan s u status.ReadFault h = h
-texts_of plan s u status.WriteFault h = h
-texts_of plan s u status.Memory h = h
-texts_of plan s u status.Limit h = h
+says_on : (s t u : Seen) (e : Refusal) (result : Status) → NoComplaint s t → Later s t → Says e t u result → Says e s u result
+says_on s t u e result q l (inl h) = inl (h.0, says_line s t u (refusal_line e) q l h.1)
+says_on s t u e result q l (inr h) = inr (h.0, (h.1.0, h.1.1, subst (λ x. Appends x (u.held output.Err) (take h.1.0 (refusal_line e))) q h.1.2))
 
-err_same : (a b : Refusal) (q : Result Status Refusal) → q ≡ Err a → q ≡ Err b → a ≡ b
-err_same a b q d e = cc
+-- a refusal that was said
+pub said : {m : Meaning} {s t u : Seen} {e : Refusal} {result : Status} → IsLawful m → Refused m s t e → NoComplaint s t → Later s t → OnlyStreams t u → Complains e t u result → Ends m s u result
+said {m} {s} {t} {u} {e} {result} k h q l w c = inr (record {
+  refusal = e;
+  refused = record { shown = shown m s t u e k w (c.only.outputs output.Out out_not_err) h.shown; leaves = k.leaves s t u w h.leaves };
+  says = says_on s t u e result q l c.says;
+})
 
--- a run that ended without a verdict
-pub ran : (asked : Option Plan) (s t u : Seen) (e : Refusal) (q : Result Status Refusal) (result : Status) → s.named output.Err ≡ None → q ≡ Err e → Attempts asked s t q → OnlyWrote output.Err t u → Complains e t u result → Runs asked s u result
-ran None s t u e q result n d h w (inl k) = inl (k.0 ∙ ap status_of (err_same e refusal.Usage q d h.usage))
-ran None s t u e q result n d h w (inr k) = inr k.0
-ran (Some plan) s t u e q result n d h w k = let p : Performs plan s t (Err e) = subst (Performs plan s t) d h.performs in complained plan s t u e result n p.err.0 w k
+-- a verdict that could not be printed is a refusal
+pub unprinted : {m : Meaning} {s t u : Seen} {v : Verdict} {e : Refusal} → IsLawful m → m.gives s t v → OutSame s t → Later s t → OnlyStreams t u → Prints v t u (Err e) → Refused m s u e
+unprinted {m} {s} {t} {u} {v} {e} k g o l w r =
+    let part : OutPart m s u = record {
+      verdict = v;
+      gives = k.gives s t u v w g;
+      part = (r.part.0, r.part.1, subst (λ x. Appends x (u.held output.Out) (take r.part.0 (text_of_verdict v))) o r.part.2);
+    } in
+    record {
+      shown = elim r.err [
+        | inl a ↦ subst (IsShown m s u) (sym a) (inr part)
+        | inr a ↦ subst (IsShown m s u) (sym a.0) (inr (inr (record { place = refl; trouble = refl; rose = omega (arith, a.1, l.writes output.Out); out = part })))
+      ];
+      leaves = k.leaves s t u w (k.left s t v g);
+    }
 
--- and what it said
-pub wrote : (asked : Option Plan) (s t u : Seen) (e : Refusal) (q : Result Status Refusal) (result : Status) → s.named output.Err ≡ None → q ≡ Err e → Attempts asked s t q → OnlyWrote output.Err t u → Complains e t u result → Texts asked s u result
-wrote None s t u e q result n d h w k =
-    (subst (λ x. Complains x s u result) (err_same e refusal.Usage q d h.usage) (said s t u e result h.silent h.writes k), w.outputs output.Out out_not_err ∙ h.out)
-wrote (Some plan) s t u e q result n d h w k =
-    let p : Performs plan s t (Err e) = subst (Performs plan s t) d h.performs in
-    texts_of plan s u result (record {
-      refusal = e;
-      cause = cause_stays plan s t u e n w p.err.0;
-      says = said s t u e result h.silent h.writes k;
-      out = quiet plan s t u e w p.err.1;
-    })
+-- a verdict that was printed
+pub printed : {m : Meaning} {s t u : Seen} {v : Verdict} {result : Status} → IsLawful m → m.gives s t v → OutSame s t → NoComplaint s t → OnlyStreams t u → u.held output.Err ≡ t.held output.Err
+    → Appends (t.held output.Out) (u.held output.Out) (text_of_verdict v) → result ≡ status_of_verdict v → Ends m s u result
+printed {m} {s} {t} {u} {v} {result} k g o q w silent p e = inl (record {
+  verdict = v;
+  gives = k.gives s t u v w g;
+  status = e;
+  printed = subst (λ x. Appends x (u.held output.Out) (text_of_verdict v)) o p;
+  silent = silent ∙ q;
+})
+
+-- ---- what a run leaves as it was
+
+pub keeps_on : {m : Meaning} {s t u : Seen} → KeepsRest m s t → OnlyStreams t u → KeepsRest m s u
+keeps_on {m} {s} {t} {u} h w = record {
+  files = λ tells n d. w.files n ∙ h.files tells n d;
+  there = λ r d. w.there r ∙ h.there r d;
+  held = λ r out err d. w.outputs r out err ∙ h.held r out err d;
+  out_name = λ e. w.names output.Out ∙ h.out_name e;
+  err_name = λ e. w.names output.Err ∙ h.err_name e;
+  later = later_on s t u h.later w.later;
+}
+
+pub calm_on : (m : Meaning) {s t u : Seen} → StaysCalm m s t → Later s t → Calm t u → StaysCalm m s u
+calm_on m {s} {t} {u} h l k calm told = calm_after (λ c. h c told) l k calm
+
+-- ---- a run of which nothing failed
+
+no_input : (i : Input) (s t : Seen) (x : Trouble) → IsLawfulInput i → i.sound s → (InputHas i s t trouble.Open → ⊥) → (InputHas i s t trouble.Read → ⊥) → InputHas i s t x → ⊥
+no_input i s t trouble.Open k d o r h = o h
+no_input i s t trouble.Read k d o r h = r h
+no_input i s t trouble.Write k d o r h = h
+no_input i s t (trouble.Fault kind offset) k d o r h = k.faulty s kind offset d h
+no_input i s t (trouble.Over limit) k d o r h = k.over s limit d h
+
+no_inputs : (is : List Input) (s t : Seen) (p : Place) (x : Trouble) → AreLawfulInputs is → AreSound is s → AreRead is s t → AnyInputHas is s t p x → ⊥
+no_inputs [] s t p x k d n h = h
+no_inputs (i ∷ is) s t p x k d n (inl h) = no_input i s t x k.0 d.0 n.0.0 n.0.1 h.has
+no_inputs (i ∷ is) s t p x k d n (inr h) = no_inputs is s t p x k.1 d.1 n.1 h
+
+no_outputs : (os : List Output) (s t : Seen) (p : Place) (x : Trouble) → AreWritten os s t → AnyOutputHas os s t p x → ⊥
+no_outputs [] s t p x n h = h
+no_outputs (o ∷ os) s t p trouble.Open n (inl h) = n.0.0 h.has.0
+no_outputs (o ∷ os) s t p trouble.Read n (inl h) = h.has
+no_outputs (o ∷ os) s t p trouble.Write n (inl h) = n.0.1 h.has.0
+no_outputs (o ∷ os) s t p (trouble.Fault kind offset) n (inl h) = h.has
+no_outputs (o ∷ os) s t p (trouble.Over limit) n (inl h) = h.has
+no_outputs (o ∷ os) s t p x n (inr h) = no_outputs os s t p x n.1 h
+
+not_both : true ≡ false → ⊥
+not_both e = cc
+
+only_memory : (m : Meaning) (s t : Seen) (e : Refusal) (result : Status) → IsLawful m → m.asked ≡ true → AreSound m.reads s → NothingFailed m s t → IsShown m s t e → Says e s t result → result ≡ status.Memory
+only_memory m s t Usage result k a d n h c = absurd (not_both (sym a ∙ h.0))
+only_memory m s t Memory result k a d n h (inl c) = c.0
+only_memory m s t Memory result k a d n h (inr c) = c.0
+only_memory m s t (At p x) result k a d n (inl h) c = absurd (no_inputs m.reads s t p x k.inputs d n.reads h.has)
+only_memory m s t (At p x) result k a d n (inr (inl h)) c = absurd (no_outputs m.makes s t p x n.makes h.has)
+only_memory m s t (At p x) result k a d n (inr (inr h)) c = absurd (n.printed h.rose)
+
+pub completed : {m : Meaning} {s t : Seen} {result : Status} → IsLawful m → Ends m s t result → Completes m s t result
+completed k (inl h) a d n = inl h
+completed {m} {s} {t} {result} k (inr h) a d n = inr (only_memory m s t h.refusal result k a d n h.refused.shown h.says)

@@ -1,5 +1,5 @@
 -- What is written is read as the same steps.
-use Rattle.std.proofs.Common.{◌≡◌, ◌∙◌, ◌≤◌, ◌<◌, ℕ, zero, suc, List, [], ◌∷◌, length, inl, inr, refl, ap, subst, sym, arith}
+use Rattle.std.proofs.Common.{◌≡◌, ◌∙◌, ◌≤◌, ◌<◌, ℕ, zero, suc, List, [], ◌∷◌, length, inl, inr, refl, ap, arith}
 use Rattle.std.specs.Prelude.{All, slice_index_or}
 use Rattle.sdcl_base.specs.Literal.{Literal, Clause}
 use Rattle.sdcl_base.specs.Sets.{In}
@@ -7,12 +7,12 @@ use Rattle.sdcl_base.specs.Codes.{InRange}
 use Rattle.sdcl_io.specs.Step.{Step, Add, AddWitness, Delete, All as honoured, End, Verified, apply, judge}
 use Rattle.sdcl_proof.specs.declared.step.Dialect.TheVariants.{Pr}
 use Rattle.sdcl_proof.specs.Lines.{text_of}
-use Rattle.sdcl_proof.specs.ProofText.{proof_text}
 use Rattle.sdcl_proof.specs.Steps.{IsClean, IsFormed}
 use Rattle.sdcl_proof.specs.RoundTrip.{AreFormed}
 use Rattle.sdcl_proof.proofs.RoundTrip.{round_trip}
 use Rattle.sdcl_outer.specs.Outcome.{IsCleanOver, IsNewClause, AddsNew, NewSteps}
-use Rattle.sdcl.specs.Judging.{proof_limit, judgement}
+use Rattle.sdcl.specs.declared.judging.TheConstants.{PROOF_LIMIT}
+use Rattle.sdcl.specs.Judging.{judgement}
 
 in_at : (c : Clause) (k : ℕ) (d : Literal) → k < length c → In c (slice_index_or c k d)
 in_at [] k d h = absurd (omega (arith, h))
@@ -39,5 +39,5 @@ unfolding NewSteps
 formed n f [] b h = tt
 formed n f (s ∷ ss) b h = (formed_step n f s b h.0, tt, formed n (apply honoured f s) ss b h.1)
 
-pub read_back : (n : ℕ) (f : List Clause) (ss : List Step) → n ≤ 4194303 → NewSteps n f ss → judge honoured f ss End ≡ Verified → length (text_of ss) ≤ proof_limit → judgement f (text_of ss) ≡ Verified
-read_back n f ss b h v l = ap (λ t. judge honoured f t.steps t.ending) (round_trip Pr proof_limit ss (formed n f ss b h) l) ∙ v
+pub read_back : (n : ℕ) (f : List Clause) (ss : List Step) → n ≤ 4194303 → NewSteps n f ss → judge honoured f ss End ≡ Verified → length (text_of ss) ≤ PROOF_LIMIT → judgement f (text_of ss) ≡ Verified
+read_back n f ss b h v l = ap (λ t. judge honoured f t.steps t.ending) (round_trip Pr PROOF_LIMIT ss (formed n f ss b h) l) ∙ v

@@ -2,12 +2,12 @@ mod Formed
 pub mod Values
 pub mod Copying
 pub mod Reading
-pub mod Phases
 pub mod Roles
-pub mod Printed
+pub mod Later
+pub mod Streams
 pub mod Making
-pub mod Keeping
+pub mod Laws
+pub mod Ending
 pub mod Solved
 pub mod Checked
-pub mod Ending
-pub mod Completing
+pub mod Lasting

@@ -16,17 +16,18 @@ use Rattle.sdcl_proof.specs.Stepping.{Stepping, left_of, left_in, text_in}
 use Rattle.sdcl_prcheck.specs.declared.verdict.Verdict.{Verdict}
 use Rattle.sdcl_prcheck.specs.declared.verdict.Verdict.TheVariants as verdict
 use Rattle.sdcl_prcheck.specs.Checking.{Checks, IsJudgedOf, IsReadOut, StopsAt, StopsWith}
-use Rattle.sdcl.specs.Judging.{proof_limit, steps_ahead, steps_of, judgement_in, JudgedAs, IsReadTo, Judged, JudgesText}
+use Rattle.sdcl.specs.declared.judging.TheConstants.{PROOF_LIMIT}
+use Rattle.sdcl.specs.Judging.{steps_ahead, steps_of, judgement_in, JudgedAs, IsReadTo, Judged, JudgesText}
 
 -- where a reading stands that has these bytes before it
 stands : (steps : List Step) (text after left : Option (List ℕ)) (kept : List ℕ) (start : Bool) (given : ℕ) → after ≡ prepend_known kept left → IsBehind text after given
-    → IsReadOut steps (text_in Pr proof_limit text) (left_of Pr (ahead_of proof_limit start given after)) → (list_any adds_empty steps ≡ false → AreTaken text after) → IsReadTo steps text left
+    → IsReadOut steps (text_in Pr PROOF_LIMIT text) (left_of Pr (ahead_of PROOF_LIMIT start given after)) → (list_any adds_empty steps ≡ false → AreTaken text after) → IsReadTo steps text left
 stands steps None after left kept start given e b h k = tt
 stands steps (Some text) after None kept start given e b h k = subst (λ x. IsBehind (Some text) x given) e b
 stands steps (Some text) after (Some left) kept start given e b h k =
     let behind : IsBehind (Some text) (Some (kept ++ left)) given = subst (λ x. IsBehind (Some text) x given) e b in
-    let same : left_of Pr (ahead_of proof_limit start given after) ≡ steps_ahead start (length behind.0) (kept ++ left) =
-    ap (λ x. left_of Pr (ahead_of proof_limit start given x)) e ∙ ap (λ n. steps_ahead start n (kept ++ left)) (sym behind.2) in
+    let same : left_of Pr (ahead_of PROOF_LIMIT start given after) ≡ steps_ahead start (length behind.0) (kept ++ left) =
+    ap (λ x. left_of Pr (ahead_of PROOF_LIMIT start given x)) e ∙ ap (λ n. steps_ahead start n (kept ++ left)) (sym behind.2) in
     record {
       taken = behind.0;
       more = kept ++ left;
@@ -39,19 +40,19 @@ stands steps (Some text) after (Some left) kept start given e b h k =
     }
 
 -- the same, by the record of the checker
-read_to : (r s : Stepping) (text left : Option (List ℕ)) (kept : List ℕ) (steps : List Step) → r.words.reading.given ≡ 0 → r.words.reading.rest ≡ text → s.words.reading.limit ≡ proof_limit → s.dialect ≡ Pr
-    → left_in r ≡ text_in Pr proof_limit text → s.words.reading.rest ≡ prepend_known kept left → StopsAt steps r s → IsReadTo steps text left
+read_to : (r s : Stepping) (text left : Option (List ℕ)) (kept : List ℕ) (steps : List Step) → r.words.reading.given ≡ 0 → r.words.reading.rest ≡ text → s.words.reading.limit ≡ PROOF_LIMIT → s.dialect ≡ Pr
+    → left_in r ≡ text_in Pr PROOF_LIMIT text → s.words.reading.rest ≡ prepend_known kept left → StopsAt steps r s → IsReadTo steps text left
 read_to r s text left kept steps z e m p q d h =
-    let limited : left_in s ≡ left_of Pr (ahead_of proof_limit s.words.at_line_start s.words.reading.given s.words.reading.rest) =
+    let limited : left_in s ≡ left_of Pr (ahead_of PROOF_LIMIT s.words.at_line_start s.words.reading.given s.words.reading.rest) =
     ap (λ n. left_of s.dialect (ahead_of n s.words.at_line_start s.words.reading.given s.words.reading.rest)) m
-    ∙ ap (λ x. left_of x (ahead_of proof_limit s.words.at_line_start s.words.reading.given s.words.reading.rest)) p in
+    ∙ ap (λ x. left_of x (ahead_of PROOF_LIMIT s.words.at_line_start s.words.reading.given s.words.reading.rest)) p in
     let count : s.words.reading.given - r.words.reading.given ≡ s.words.reading.given = omega arith in
     stands steps text s.words.reading.rest left kept s.words.at_line_start s.words.reading.given d
     (subst (λ x. IsBehind x s.words.reading.rest s.words.reading.given) e (subst (IsBehind r.words.reading.rest s.words.reading.rest) count h.behind))
-    (subst (IsReadOut steps (text_in Pr proof_limit text)) limited (subst (λ x. IsReadOut steps x (left_in s)) q h.read_out))
+    (subst (IsReadOut steps (text_in Pr PROOF_LIMIT text)) limited (subst (λ x. IsReadOut steps x (left_in s)) q h.read_out))
     (λ k. subst (λ x. AreTaken x s.words.reading.rest) e (h.at_end k))
 
-judged_as : (f : List Clause) (text : Option (List ℕ)) (v : Verdict) → IsJudgedOf (Ok v) f (text_in Pr proof_limit text) → JudgedAs f text (judgement_in v)
+judged_as : (f : List Clause) (text : Option (List ℕ)) (v : Verdict) → IsJudgedOf (Ok v) f (text_in Pr PROOF_LIMIT text) → JudgedAs f text (judgement_in v)
 judged_as f None v h = tt
 judged_as f (Some text) verdict.Verified h = h
 judged_as f (Some text) (verdict.NotVerified k) h = h
@@ -60,9 +61,9 @@ judged_as f (Some text) (verdict.NotVerified k) h = h
 record Fresh (r : Stepping) (text : Option (List ℕ)) : Type 0 where
   given : r.words.reading.given ≡ 0
   rest : r.words.reading.rest ≡ text
-  limit : r.words.reading.limit ≡ proof_limit
+  limit : r.words.reading.limit ≡ PROOF_LIMIT
   dialect : r.dialect ≡ Pr
-  all : left_in r ≡ text_in Pr proof_limit text
+  all : left_in r ≡ text_in Pr PROOF_LIMIT text
 
 judged : (r s : Stepping) (f clauses : List Clause) (text left : Option (List ℕ)) (kept : List ℕ) (result : Result Verdict ProofError) → Fresh r text → Checks f clauses r s result
     → IfOk result (λ v. v ≡ verdict.Verified → Unsatisfiable f) → s.words.reading.rest ≡ prepend_known kept left → IfOk result (λ v. Judged f text left v)
@@ -81,12 +82,12 @@ judged r s f clauses text left kept (Ok v) new h u d = record {
 -- what the checker's answer says, where the reader's world is seen so
 pub judged_text : (r s : Stepping) (new : Reading) (f clauses : List Clause) (text : Option (List ℕ)) (first seen : Seen) (kept : List ℕ) (result : Result Verdict ProofError)
     → r ≡ record { words = record { reading = new; at_line_start = true }; dialect = Pr; failed = None }
-    → new ≡ record { world = first; role = Proof; limit = proof_limit; given = 0; failed = None; rest = text } → left_in r ≡ text_in Pr new.limit new.rest → Checks f clauses r s result
+    → new ≡ record { world = first; role = Proof; limit = PROOF_LIMIT; given = 0; failed = None; rest = text } → left_in r ≡ text_in Pr new.limit new.rest → Checks f clauses r s result
     → IfOk result (λ v. v ≡ verdict.Verified → Unsatisfiable f) → s.words.reading.rest ≡ prepend_known kept (seen.left s.words.reading.role) → JudgesText f text (seen.left Proof) result
 judged_text r s new f clauses text first seen kept result e q a h u d =
-    let limit : new.limit ≡ proof_limit = ap (λ (x : Reading). x.limit) q in
+    let limit : new.limit ≡ PROOF_LIMIT = ap (λ (x : Reading). x.limit) q in
     let rest : new.rest ≡ text = ap (λ (x : Reading). x.rest) q in
-    let all : left_in r ≡ text_in Pr proof_limit text = a ∙ ap (λ n. text_in Pr n new.rest) limit ∙ ap (text_in Pr proof_limit) rest in
+    let all : left_in r ≡ text_in Pr PROOF_LIMIT text = a ∙ ap (λ n. text_in Pr n new.rest) limit ∙ ap (text_in Pr PROOF_LIMIT) rest in
     let role : s.words.reading.role ≡ Proof = h.onward.role ∙ ap (λ (x : Stepping). x.words.reading.role) e ∙ ap (λ (x : Reading). x.role) q in
     record {
       answers = subst (IsJudgedOf result f) all h.text;

@@ -1,11 +1,10 @@
 -- What the judging of a proof did.
-use Rattle.std.specs.Prelude.{◌≡◌, ⊤, ℕ, Bool, false, List, [], ◌++◌, length, Option, None, Some, Result, IfOk, IfErr}
+use Rattle.std.specs.Prelude.{◌≡◌, ⊤, ℕ, Bool, false, List, [], ◌++◌, length, Option, None, Some, IsSome, Result, IfOk, IfErr}
 use Rattle.std.specs.List.{list_any}
 use Rattle.sdcl_base.specs.Literal.{Clause}
 use Rattle.sdcl_base.specs.Truth.{Unsatisfiable}
 use Rattle.sdcl_io.specs.declared.world.InRole.TheVariants.{Proof}
-use Rattle.sdcl_io.specs.declared.world.InRole.TheVariants as input
-use Rattle.sdcl_io.specs.World.{Seen, OnlyRead, Rose}
+use Rattle.sdcl_io.specs.World.{Seen, OnlyRead, Calm}
 use Rattle.sdcl_io.specs.Ahead.{ahead_of}
 use Rattle.sdcl_io.specs.Step.{Step, All, Fault, Over, Judgement, Verified, NotVerified, Ended, adds_empty, judge, ValidSteps}
 use Rattle.sdcl_proof.specs.declared.step.Dialect.TheVariants.{Pr}
@@ -16,17 +15,17 @@ use Rattle.sdcl_proof.specs.Stepping.{left_of, text_in}
 use Rattle.sdcl_prcheck.specs.declared.verdict.Verdict.{Verdict}
 use Rattle.sdcl_prcheck.specs.declared.verdict.Verdict.TheVariants as verdict
 use Rattle.sdcl_prcheck.specs.Checking.{IsJudgedOf, Bears, IsReadOut}
+use Rattle.sdcl_proof.specs.declared.fault.ProofError.TheVariants as error
+use Rattle.sdcl.specs.declared.judging.TheConstants.{PROOF_LIMIT}
 use Rattle.sdcl.specs.declared.refusal.Place.TheVariants as place
+use Rattle.sdcl.specs.declared.refusal.Trouble.TheVariants as trouble
 use Rattle.sdcl.specs.declared.refusal.Refusal.{Refusal}
-use Rattle.sdcl.specs.declared.refusal.Refusal.TheVariants as refusal
-
--- the greatest number of bytes of a proof's text
-abbrev pub proof_limit : ℕ
-proof_limit = 536870912
+use Rattle.sdcl.specs.declared.refusal.Refusal.TheVariants.{Memory, At}
+use Rattle.sdcl.specs.Meaning.{Input, InputRefuses}
 
 -- what a proof's text stands for
 abbrev pub steps_of : List ℕ → ProofText
-steps_of text = proof_text Pr proof_limit text
+steps_of text = proof_text Pr PROOF_LIMIT text
 
 -- the judgement of a proof's text
 abbrev pub judgement : List Clause → List ℕ → Judgement
@@ -44,7 +43,7 @@ judgement_in (verdict.NotVerified k) = NotVerified k
 
 -- the steps and the ending that a reading has ahead that stands between two words, behind so many bytes and before these
 abbrev pub steps_ahead : Bool → ℕ → List ℕ → Option ProofText
-steps_ahead at_line_start at more = left_of Pr (ahead_of proof_limit at_line_start at (Some more))
+steps_ahead at_line_start at more = left_of Pr (ahead_of PROOF_LIMIT at_line_start at (Some more))
 
 -- How far the text was read: some bytes of it were taken, what is left is a part of those behind them, and these steps end there,
 -- with the first that adds the empty clause, or with the text.
@@ -76,26 +75,31 @@ pub record Judged (f : List Clause) (text left : Option (List ℕ)) (v : Verdict
 
 -- What the judging of an open text did, of which so much is left.
 pub record JudgesText (f : List Clause) (text left : Option (List ℕ)) (result : Result Verdict ProofError) : Type 0 where
-  pub answers : IsJudgedOf result f (text_in Pr proof_limit text)
+  pub answers : IsJudgedOf result f (text_in Pr PROOF_LIMIT text)
   pub ok : IfOk result (λ v. Judged f text left v)
 
--- why there is no verdict
-abbrev pub JudgeCause : List ℕ → List Clause → Seen → Seen → Refusal → Type 0
-JudgeCause name f s t refusal.Usage = ⊥
-JudgeCause name f s t (refusal.FormulaGrammar fault) = ⊥
-JudgeCause name f s t (refusal.ProofGrammar fault) = JudgedAs f (s.file name) (Ended (Fault fault.offset (kind_code fault.kind)))
-JudgeCause name f s t (refusal.Open place.Formula) = ⊥
-JudgeCause name f s t (refusal.Open place.Proof) = Rose (s.open_faults Proof name) (t.open_faults Proof name)
-JudgeCause name f s t (refusal.Open place.Out) = ⊥
-JudgeCause name f s t (refusal.Read input.Formula) = ⊥
-JudgeCause name f s t (refusal.Read input.Proof) = Rose (s.read_faults Proof) (t.read_faults Proof)
-JudgeCause name f s t (refusal.Write where') = ⊥
-JudgeCause name f s t refusal.Memory = ⊤
-JudgeCause name f s t (refusal.Over input.Formula) = ⊥
-JudgeCause name f s t (refusal.Over input.Proof) = JudgedAs f (s.file name) (Ended Over)
+-- the proof of this name, over these clauses
+abbrev pub proof_over : List ℕ → List Clause → Input
+proof_over name f = record {
+  place = place.Proof;
+  role = Proof;
+  name = name;
+  before = λ s. ⊤;
+  faulty = λ s kind offset. JudgedAs f (s.file name) (Ended (Fault offset kind));
+  over = λ s limit. (limit ≡ PROOF_LIMIT) × JudgedAs f (s.file name) (Ended Over);
+  sound = λ s. ⊤;
+}
+
+-- the refusal of a proof that could not be read
+abbrev pub refusal_of : ProofError → Refusal
+refusal_of (error.Grammar fault) = At place.Proof (trouble.Fault (kind_code fault.kind) fault.offset)
+refusal_of error.ReadFault = At place.Proof trouble.Read
+refusal_of error.TooLong = At place.Proof (trouble.Over PROOF_LIMIT)
+refusal_of error.NoMemory = Memory
 
 -- What the judging of the named file over these clauses did.
 pub record Judges (name : List ℕ) (f : List Clause) (s t : Seen) (result : Result Verdict Refusal) : Type 0 where
   pub only : OnlyRead Proof s t
+  pub calm : IsSome (s.file name) → Calm s t
   pub ok : IfOk result (λ v. Judged f (s.file name) (t.left Proof) v)
-  pub err : IfErr result (λ e. JudgeCause name f s t e)
+  pub err : IfErr result (λ e. InputRefuses (proof_over name f) s t e)

@@ -1,13 +1,13 @@
 pub mod Texts
 pub mod Commands
 pub mod Codes
+pub mod Verdicts
 pub mod Refusals
+pub mod Starting
+pub mod Meaning
 pub mod Loading
 pub mod Proving
 pub mod Judging
-pub mod Printing
-pub mod Starting
 pub mod Solving
 pub mod Checking
 pub mod Running
-pub mod Keeping

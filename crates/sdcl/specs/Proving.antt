@@ -1,17 +1,21 @@
 -- What the solving and the writing of the proof did.
-use Rattle.std.specs.Prelude.{◌≡◌, ◌≤◌, ℕ, List, Option, None, Some, IfSome, IsTrue, Result, IfOk, IfErr}
+use Rattle.std.specs.Prelude.{◌≡◌, ◌⊎◌, ◌≤◌, ⊤, ℕ, List, Option, Some, None, IfSome, IsTrue, Result, IfOk, IfErr}
 use Rattle.sdcl_base.specs.Literal.{Clause}
 use Rattle.sdcl_io.specs.declared.world.InRole.{InRole}
 use Rattle.sdcl_io.specs.declared.world.OutRole.{OutRole}
 use Rattle.sdcl_io.specs.declared.world.OutRole.TheVariants.{Proof}
-use Rattle.sdcl_io.specs.World.{Seen, Later, Rose}
+use Rattle.sdcl_io.specs.World.{Seen, Later, Unchanged, Calm}
 use Rattle.sdcl_io.specs.Step.{Step, All, apply_all, ValidSteps}
 use Rattle.sdcl_proof.specs.Files.{HoldsSteps}
 use Rattle.sdcl_outer.specs.Outcome.{Ends as Concludes, NewSteps, IsNext, learned_in}
 use Rattle.sdcl_outer.specs.declared.solving.Answer.{Answer}
 use Rattle.sdcl.specs.declared.refusal.Place.TheVariants as place
 use Rattle.sdcl.specs.declared.refusal.Refusal.{Refusal}
-use Rattle.sdcl.specs.declared.refusal.Refusal.TheVariants as refusal
+use Rattle.sdcl.specs.Meaning.{Output, OutputRefuses}
+
+-- the proof of this name, made where that holds
+abbrev pub proof_out : List ℕ → (Seen → Type 0) → Output
+proof_out name before = record { place = place.Proof; role = Proof; name = name; before = before }
 
 -- nothing but the output Proof, and the file of this name, has changed
 pub record OnlyProof (name : List ℕ) (s t : Seen) : Type 0 where
@@ -29,33 +33,29 @@ pub record Lawful (n budget : ℕ) (f : List Clause) (steps : List Step) (torn :
   pub new : NewSteps n f steps
   pub affordable : learned_in steps ≤ budget
 
--- the output Proof, where it is there, holds the lines of such steps, and perhaps a part of the line of the one that may come next
-abbrev pub HoldsLawful : ℕ → ℕ → List Clause → Seen → Type 0
-HoldsLawful n budget f t = IsTrue (t.is_there Proof) → (steps : List Step) × (torn : Option Step) × Lawful n budget f steps torn × HoldsSteps Proof t steps torn
+-- the output Proof holds the lines of such steps, and perhaps a part of the line of the one that may come next
+pub record WritesPart (n budget : ℕ) (f : List Clause) (t : Seen) : Type 0 where
+  pub steps : List Step
+  pub torn : Option Step
+  pub lawful : Lawful n budget f steps torn
+  pub holds : HoldsSteps Proof t steps torn
 
--- the output Proof holds the lines of valid steps that learn no more clauses than the budget has and bear the answer out
-abbrev pub IsProved : ℕ → ℕ → List Clause → Seen → Answer → Type 0
-IsProved variables budget f t answer =
-    (steps : List Step) × ValidSteps f steps × HoldsSteps Proof t steps None × Concludes f variables budget steps answer × NewSteps variables f steps
-    × (learned_in steps ≤ budget)
+-- the output Proof holds the lines of such steps, and they bear the answer out
+pub record Finds (n budget : ℕ) (f : List Clause) (t : Seen) (answer : Answer) : Type 0 where
+  pub steps : List Step
+  pub lawful : Lawful n budget f steps None
+  pub holds : HoldsSteps Proof t steps None
+  pub bears : Concludes f n budget steps answer
 
--- why there is no answer
-abbrev pub ProveCause : List ℕ → ℕ → ℕ → List Clause → Seen → Seen → Refusal → Type 0
-ProveCause name n budget f s t refusal.Usage = ⊥
-ProveCause name n budget f s t (refusal.FormulaGrammar fault) = ⊥
-ProveCause name n budget f s t (refusal.ProofGrammar fault) = ⊥
-ProveCause name n budget f s t (refusal.Open place.Formula) = ⊥
-ProveCause name n budget f s t (refusal.Open place.Proof) = Rose (s.create_faults Proof name) (t.create_faults Proof name) × (t.is_there Proof ≡ s.is_there Proof)
-ProveCause name n budget f s t (refusal.Open place.Out) = ⊥
-ProveCause name n budget f s t (refusal.Read role) = ⊥
-ProveCause name n budget f s t (refusal.Write place.Formula) = ⊥
-ProveCause name n budget f s t (refusal.Write place.Proof) = Rose (s.write_faults Proof) (t.write_faults Proof) × HoldsLawful n budget f t
-ProveCause name n budget f s t (refusal.Write place.Out) = ⊥
-ProveCause name n budget f s t refusal.Memory = (IsTrue (s.is_there Proof) → ⊥) → HoldsLawful n budget f t
-ProveCause name n budget f s t (refusal.Over role) = ⊥
+-- the output Proof was made, and the file of this name holds what it holds, where files are told
+pub record IsMade (name : List ℕ) (t : Seen) : Type 0 where
+  pub there : IsTrue (t.is_there Proof)
+  pub file : IsTrue t.tells → t.file name ≡ t.held Proof
 
-pub record Proves (name : List ℕ) (variables budget : ℕ) (f : List Clause) (s t : Seen) (result : Result Answer Refusal) : Type 0 where
+-- what the making and writing of the named proof did
+pub record Proves (name : List ℕ) (n budget : ℕ) (f : List Clause) (s t : Seen) (result : Result Answer Refusal) : Type 0 where
   pub only : OnlyProof name s t
-  pub file : IfOk result (λ _. IsTrue s.tells → t.file name ≡ t.held Proof)
-  pub ok : IfOk result (λ answer. IsProved variables budget f t answer)
-  pub err : IfErr result (λ e. ProveCause name variables budget f s t e)
+  pub calm : Calm s t
+  pub ok : IfOk result (λ answer. IsMade name t × Finds n budget f t answer)
+  pub err : IfErr result (λ e. OutputRefuses (proof_out name (λ u. ⊤)) s t e)
+  pub left : IfErr result (λ e. Unchanged s t ⊎ (IsMade name t × WritesPart n budget f t))

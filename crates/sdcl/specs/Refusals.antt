@@ -1,29 +1,32 @@
 -- Why a run ends without a verdict: the status, and the line on standard error.
 use Rattle.std.specs.Prelude.{◌≡◌, ◌⊎◌, ◌<◌, ◌≤◌, ℕ, List, ◌++◌, length, take, codes, decimal}
 use Rattle.std.specs.Io.KnownBytes.{Appends}
-use Rattle.sdcl_io.specs.declared.world.InRole.{InRole}
-use Rattle.sdcl_io.specs.declared.world.InRole.TheVariants as input
 use Rattle.sdcl_io.specs.declared.world.OutRole.TheVariants as output
-use Rattle.sdcl_io.specs.World.{Seen, Rose}
-use Rattle.sdcl_dimacs.specs.Faults.{kind_code as formula_code}
-use Rattle.sdcl_proof.specs.Faults.{kind_code as proof_code}
+use Rattle.sdcl_io.specs.declared.world.Failed.{Failed}
+use Rattle.sdcl_io.specs.declared.world.Failed.TheVariants.{Fault, NoMemory}
+use Rattle.sdcl_io.specs.World.{Seen, OnlyWrote, Calm, Rose}
 use Rattle.sdcl.specs.declared.status.Status.{Status}
 use Rattle.sdcl.specs.declared.status.Status.TheVariants as status
 use Rattle.sdcl.specs.declared.refusal.Place.{Place}
 use Rattle.sdcl.specs.declared.refusal.Place.TheVariants as place
+use Rattle.sdcl.specs.declared.refusal.Trouble.{Trouble}
+use Rattle.sdcl.specs.declared.refusal.Trouble.TheVariants as trouble
 use Rattle.sdcl.specs.declared.refusal.Refusal.{Refusal}
-use Rattle.sdcl.specs.declared.refusal.Refusal.TheVariants as refusal
+use Rattle.sdcl.specs.declared.refusal.Refusal.TheVariants.{Usage, Memory, At}
+
+-- the status of a trouble
+abbrev pub status_of_trouble : Trouble → Status
+status_of_trouble trouble.Open = status.OpenFault
+status_of_trouble trouble.Read = status.ReadFault
+status_of_trouble trouble.Write = status.WriteFault
+status_of_trouble (trouble.Fault kind offset) = status.Grammar
+status_of_trouble (trouble.Over limit) = status.Limit
 
 -- the status of the run
 abbrev pub status_of : Refusal → Status
-status_of refusal.Usage = status.Usage
-status_of (refusal.FormulaGrammar fault) = status.Grammar
-status_of (refusal.ProofGrammar fault) = status.Grammar
-status_of (refusal.Open where') = status.OpenFault
-status_of (refusal.Read role) = status.ReadFault
-status_of (refusal.Write where') = status.WriteFault
-status_of refusal.Memory = status.Memory
-status_of (refusal.Over role) = status.Limit
+status_of Usage = status.Usage
+status_of Memory = status.Memory
+status_of (At p x) = status_of_trouble x
 
 -- the name of a file or stream in messages
 abbrev pub place_name : Place → List ℕ
@@ -31,22 +34,24 @@ place_name place.Formula = codes "formula"
 place_name place.Proof = codes "proof"
 place_name place.Out = codes "out"
 
--- the file that an input of this role reads
-abbrev pub place_of : InRole → Place
-place_of input.Formula = place.Formula
-place_of input.Proof = place.Proof
+-- what is said of a trouble at the place of this name
+abbrev pub trouble_text : List ℕ → Trouble → List ℕ
+trouble_text name trouble.Open = codes "open fault " ++ name
+trouble_text name trouble.Read = codes "read fault " ++ name
+trouble_text name trouble.Write = codes "write fault " ++ name
+trouble_text name (trouble.Fault kind offset) = name ++ codes " fault " ++ decimal kind ++ codes " at " ++ decimal offset
+trouble_text name (trouble.Over limit) = name ++ codes " over " ++ decimal limit ++ codes " bytes"
 
 -- the line on standard error
 abbrev pub refusal_line : Refusal → List ℕ
-refusal_line refusal.Usage = codes "sdcl: usage\n"
-refusal_line (refusal.FormulaGrammar fault) = codes "sdcl: formula fault " ++ decimal (formula_code fault.kind) ++ codes " at " ++ decimal fault.offset ++ codes "\n"
-refusal_line (refusal.ProofGrammar fault) = codes "sdcl: proof fault " ++ decimal (proof_code fault.kind) ++ codes " at " ++ decimal fault.offset ++ codes "\n"
-refusal_line (refusal.Open where') = codes "sdcl: open fault " ++ place_name where' ++ codes "\n"
-refusal_line (refusal.Read role) = codes "sdcl: read fault " ++ place_name (place_of role) ++ codes "\n"
-refusal_line (refusal.Write where') = codes "sdcl: write fault " ++ place_name where' ++ codes "\n"
-refusal_line refusal.Memory = codes "sdcl: out of memory\n"
-refusal_line (refusal.Over input.Formula) = codes "sdcl: formula over 134217728 bytes\n"
-refusal_line (refusal.Over input.Proof) = codes "sdcl: proof over 536870912 bytes\n"
+refusal_line Usage = codes "sdcl: usage\n"
+refusal_line Memory = codes "sdcl: out of memory\n"
+refusal_line (At p x) = codes "sdcl: " ++ trouble_text (place_name p) x ++ codes "\n"
+
+-- the refusal for a call that failed at this place, where a fault of the world is this trouble
+abbrev pub blamed : Place → Trouble → Failed → Refusal
+blamed p x Fault = At p x
+blamed p x NoMemory = Memory
 
 -- standard error got the line, or, where a write on it failed, a proper prefix of it
 abbrev pub SaysLine : List ℕ → Seen → Seen → Type 0
@@ -59,5 +64,11 @@ abbrev pub SaysPrefix : List ℕ → Seen → Seen → Type 0
 SaysPrefix line s t = (n : ℕ) × (n ≤ length line) × Appends (s.held output.Err) (t.held output.Err) (take n line)
 
 -- the refusal was said, and gives its status; where memory is wanted for the saying, that is the status
-abbrev pub Complains : Refusal → Seen → Seen → Status → Type 0
-Complains e s t result = ((result ≡ status_of e) × SaysLine (refusal_line e) s t) ⊎ ((result ≡ status.Memory) × SaysPrefix (refusal_line e) s t)
+abbrev pub Says : Refusal → Seen → Seen → Status → Type 0
+Says e s t result = ((result ≡ status_of e) × SaysLine (refusal_line e) s t) ⊎ ((result ≡ status.Memory) × SaysPrefix (refusal_line e) s t)
+
+-- what the saying of a refusal did
+pub record Complains (e : Refusal) (s t : Seen) (result : Status) : Type 0 where
+  pub only : OnlyWrote output.Err s t
+  pub calm : Calm s t
+  pub says : Says e s t result

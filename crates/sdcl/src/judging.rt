@@ -1,23 +1,24 @@
 //! The judging of a proof.
 ghost use Rattle.std.specs.Prelude.{◌≡◌, ◌≤◌, true, IsTrue, IfOk, IsErrOf, None};
 ghost use Rattle.sdcl_io.specs.declared.world.InRole.TheVariants as input;
-ghost use Rattle.sdcl_io.specs.World.{Rose, OnlyRead};
+ghost use Rattle.sdcl_io.specs.World.{Rose, OnlyRead, Calm};
 ghost use Rattle.sdcl_io.specs.Readers.{reading};
 ghost use Rattle.sdcl_proof.specs.Stepping.{stepping, text_in, left_in};
 ghost use Rattle.sdcl_base.specs.Sets.{WithinVariables};
-ghost use Rattle.sdcl.specs.Judging.{Judges, JudgesText};
+ghost use Rattle.sdcl_base.specs.declared.lit.TheConstants.{MAX_VARIABLE};
+ghost use Rattle.sdcl.specs.Judging.{Judges, JudgesText, refusal_of};
 
 use crate::loading::Loaded;
-use crate::refusal::{Place, Refusal};
+use crate::refusal::{Place, Refusal, Trouble, blame};
 use sdcl_base::{ClauseId, NoMemory};
-use sdcl_io::{Failed, InRole, Reader, World};
+use sdcl_io::{InRole, Reader, World};
 use sdcl_prcheck::{Verdict, check_pr};
 use sdcl_proof::{Dialect, ProofError, StepReader};
 use sdcl_rup::Database;
 use std::alloc::Global;
 
 /// The greatest number of bytes of a proof's text.
-const PROOF_LIMIT: u64 = 536_870_912;
+pub const PROOF_LIMIT: u64 = 536_870_912;
 
 /// Opens the named file, and judges it as a proof of the formula.
 pub fn judge<W: World>(
@@ -26,36 +27,32 @@ pub fn judge<W: World>(
     name: &str,
     loaded: Loaded,
 ) -> Result<Verdict, Refusal>
-    requires few { loaded.variables ≤ 4194303 }
+    requires few { loaded.variables ≤ MAX_VARIABLE }
     requires within { WithinVariables loaded.variables loaded.store }
     ensures judges { Judges name.now loaded.store (W.seen world.old) (W.seen world.new) result }
     ensures follows { W.follows world.old world.new }
 {
-    match world.open_input(InRole::Proof, name) {
-        Ok(()) => {}
-        Err(Failed::Fault) => return Err(Refusal::Open(Place::Proof)),
-        Err(Failed::NoMemory) => return Err(Refusal::Memory),
+    if let Err(failed) = world.open_input(InRole::Proof, name) {
+        return Err(blame(Place::Proof, Trouble::Open, failed));
     }
     let Ok(mut database) = database_of(alloc, loaded) else {
         return Err(Refusal::Memory);
     };
     match judge_open(alloc, world, &mut database) {
         Ok(verdict) => Ok(verdict),
-        Err(ProofError::Grammar(fault)) => Err(Refusal::ProofGrammar(fault)),
-        Err(ProofError::ReadFault) => Err(Refusal::Read(InRole::Proof)),
-        Err(ProofError::TooLong) => Err(Refusal::Over(InRole::Proof)),
-        Err(ProofError::NoMemory) => Err(Refusal::Memory),
+        Err(error) => Err(refuse(error)),
     }
 }
 
 // The clauses of the formula, for a checker.
 fn database_of(alloc: Global, loaded: Loaded) -> Result<Database, NoMemory>
-    requires few { loaded.variables ≤ 4194303 }
+    requires few { loaded.variables ≤ MAX_VARIABLE }
     requires within { WithinVariables loaded.variables loaded.store }
     ensures { IfOk result (λ database. database.clauses ≡ loaded.store) }
 {
     let mut database = Database::new(alloc)?;
     database.cover(loaded.variables)?;
+    // the first `id` clauses are copied, and their variables covered
     for id in 0..loaded.store.slots() {
         database.add(loaded.store.literals(ClauseId(id)))?;
     }
@@ -70,6 +67,7 @@ fn judge_open<W: World>(
 ) -> Result<Verdict, ProofError>
     requires open { IsTrue ((W.seen world.old).is_open input.Proof) }
     ensures only { OnlyRead input.Proof (W.seen world.old) (W.seen world.new) }
+    ensures calm { Calm (W.seen world.old) (W.seen world.new) }
     ensures judges { JudgesText database.old.clauses ((W.seen world.old).left input.Proof) ((W.seen world.new).left input.Proof) result }
     ensures fault { IsErrOf result ProofError.ReadFault → Rose ((W.seen world.old).read_faults input.Proof) ((W.seen world.new).read_faults input.Proof) }
     ensures follows { W.follows world.old world.new }
@@ -90,5 +88,24 @@ fn steps_of<'w, W: World>(reader: Reader<'w, W>) -> StepReader<'w, W>
     match StepReader::new(reader, Dialect::Pr) {
         Ok(steps) => steps,
         Err(_) => unreachable!(),
+    }
+}
+
+// The refusal of a proof that could not be read.
+fn refuse(error: ProofError) -> Refusal
+    ensures { result ≡ refusal_of error }
+{
+    match error {
+        ProofError::Grammar(fault) => {
+            let kind = fault.kind.code();
+            let offset = fault.offset;
+            Refusal::At(Place::Proof, Trouble::Fault { kind, offset })
+        }
+        ProofError::ReadFault => Refusal::At(Place::Proof, Trouble::Read),
+        ProofError::TooLong => {
+            let limit = PROOF_LIMIT;
+            Refusal::At(Place::Proof, Trouble::Over { limit })
+        }
+        ProofError::NoMemory => Refusal::Memory,
     }
 }

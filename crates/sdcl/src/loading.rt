@@ -1,20 +1,21 @@
 //! The reading of the formula.
-ghost use Rattle.std.specs.Prelude.{◌≡◌, ◌≤◌, IsTrue, OnOk, IfOk, IfErr, IfSome, IsErrOf, [], length};
+ghost use Rattle.std.specs.Prelude.{◌≡◌, IsTrue, OnOk, IfOk, IfSome, IsErrOf, []};
 ghost use Rattle.sdcl_io.specs.declared.world.InRole.TheVariants.{Formula};
-ghost use Rattle.sdcl_io.specs.World.{Rose, OnlyRead};
+ghost use Rattle.sdcl_io.specs.World.{Rose, OnlyRead, Calm};
 ghost use Rattle.sdcl_dimacs.specs.FormulaText.{formula_text};
 ghost use Rattle.sdcl_dimacs.specs.Within.{IsFormula};
 ghost use Rattle.sdcl_dimacs.specs.Answers.{Answers};
-ghost use Rattle.sdcl.specs.Loading.{formula_limit, IsReadOut, Loads};
+ghost use Rattle.sdcl.specs.declared.loading.TheConstants.{FORMULA_LIMIT};
+ghost use Rattle.sdcl.specs.Loading.{IsReadOut, Loads, refusal_for};
 
-use crate::refusal::{Place, Refusal};
+use crate::refusal::{Place, Refusal, Trouble, blame};
 use sdcl_base::Store;
 use sdcl_dimacs::{FormulaError, Header, read_formula};
-use sdcl_io::{Failed, InRole, Reader, World};
+use sdcl_io::{InRole, Reader, World};
 use std::alloc::Global;
 
 /// The greatest number of bytes of a formula's text.
-const FORMULA_LIMIT: u64 = 134_217_728;
+pub const FORMULA_LIMIT: u64 = 134_217_728;
 
 /// A formula: its clauses, and the number of variables that its header gives.
 #[derive(Drop)]
@@ -28,10 +29,8 @@ pub fn load<W: World>(alloc: Global, world: &mut W, name: &str) -> Result<Loaded
     ensures loads { Loads name.now (W.seen world.old) (W.seen world.new) result }
     ensures follows { W.follows world.old world.new }
 {
-    match world.open_input(InRole::Formula, name) {
-        Ok(()) => {}
-        Err(Failed::Fault) => return Err(Refusal::Open(Place::Formula)),
-        Err(Failed::NoMemory) => return Err(Refusal::Memory),
+    if let Err(failed) = world.open_input(InRole::Formula, name) {
+        return Err(blame(Place::Formula, Trouble::Open, failed));
     }
     let mut store = Store::new(alloc);
     match read(alloc, world, &mut store) {
@@ -39,10 +38,7 @@ pub fn load<W: World>(alloc: Global, world: &mut W, name: &str) -> Result<Loaded
             variables: header.variables,
             store,
         }),
-        Err(FormulaError::Grammar(fault)) => Err(Refusal::FormulaGrammar(fault)),
-        Err(FormulaError::ReadFault) => Err(Refusal::Read(InRole::Formula)),
-        Err(FormulaError::TooLong) => Err(Refusal::Over(InRole::Formula)),
-        Err(FormulaError::NoMemory) => Err(Refusal::Memory),
+        Err(error) => Err(refuse(error)),
     }
 }
 
@@ -51,8 +47,9 @@ fn read<W: World>(alloc: Global, world: &mut W, store: &mut Store) -> Result<Hea
     requires open { IsTrue ((W.seen world.old).is_open Formula) }
     requires empty { store.old ≡ [] }
     ensures only { OnlyRead Formula (W.seen world.old) (W.seen world.new) }
+    ensures calm { Calm (W.seen world.old) (W.seen world.new) }
     ensures within { IfOk result (λ h. IsFormula h store.new) }
-    ensures text { IfSome ((W.seen world.old).left Formula) (λ text. Answers result store.new (formula_text formula_limit text)) }
+    ensures text { IfSome ((W.seen world.old).left Formula) (λ text. Answers result store.new (formula_text FORMULA_LIMIT text)) }
     ensures read_out { OnOk result (IsReadOut ((W.seen world.old).left Formula) ((W.seen world.new).left Formula)) }
     ensures stands { (W.seen world.new).stands Formula ≡ (W.seen world.old).stands Formula }
     ensures fault { IsErrOf result FormulaError.ReadFault → Rose ((W.seen world.old).read_faults Formula) ((W.seen world.new).read_faults Formula) }
@@ -60,4 +57,23 @@ fn read<W: World>(alloc: Global, world: &mut W, store: &mut Store) -> Result<Hea
 {
     let mut reader = Reader::new(world, InRole::Formula, FORMULA_LIMIT);
     read_formula(alloc, &mut reader, store)
+}
+
+// The refusal of a formula that could not be read.
+fn refuse(error: FormulaError) -> Refusal
+    ensures { result ≡ refusal_for error }
+{
+    match error {
+        FormulaError::Grammar(fault) => {
+            let kind = fault.kind.code();
+            let offset = fault.offset;
+            Refusal::At(Place::Formula, Trouble::Fault { kind, offset })
+        }
+        FormulaError::ReadFault => Refusal::At(Place::Formula, Trouble::Read),
+        FormulaError::TooLong => {
+            let limit = FORMULA_LIMIT;
+            Refusal::At(Place::Formula, Trouble::Over { limit })
+        }
+        FormulaError::NoMemory => Refusal::Memory,
+    }
 }

@@ -1,16 +1,15 @@
 //! The solving of the formula, with its proof written on the way.
-ghost use Rattle.std.specs.Prelude.{◌≡◌, ◌≤◌, ◌<◌, ◌+◌, true, IsTrue, IfOk, OnErr, IsErrOf, Option, None, List, [], length};
+ghost use Rattle.std.specs.Prelude.{◌≡◌, ◌≤◌, ◌<◌, ◌+◌, IsTrue, IfOk, OnErr, IsErrOf, None, [], length};
 ghost use Rattle.sdcl_io.specs.declared.world.OutRole.TheVariants.{Proof};
 ghost use Rattle.sdcl_io.specs.World.{Rose};
-ghost use Rattle.sdcl_io.specs.Step.{Step, ValidSteps};
 ghost use Rattle.sdcl_proof.specs.Files.{Onward, HoldsSteps};
 ghost use Rattle.sdcl_base.specs.Sets.{WithinVariables};
-ghost use Rattle.sdcl_outer.specs.Outcome.{Ends as Concludes, NewSteps, learned_in};
-ghost use Rattle.sdcl.specs.Proving.{Lawful, Proves};
+ghost use Rattle.sdcl_base.specs.declared.lit.TheConstants.{MAX_VARIABLE};
+ghost use Rattle.sdcl.specs.Proving.{Proves, Finds, WritesPart};
 
 use crate::loading::Loaded;
-use crate::refusal::{Place, Refusal};
-use sdcl_io::{Failed, OutRole, World};
+use crate::refusal::{Place, Refusal, Trouble, blame};
+use sdcl_io::{OutRole, World};
 use sdcl_outer::{Answer, Options, SolveError, solve};
 use sdcl_proof::ProofFile;
 use std::alloc::Global;
@@ -23,20 +22,18 @@ pub fn prove<W: World>(
     loaded: Loaded,
     options: &Options,
 ) -> Result<Answer, Refusal>
-    requires few { loaded.variables ≤ 4194303 }
+    requires few { loaded.variables ≤ MAX_VARIABLE }
     requires within { WithinVariables loaded.variables loaded.store }
     requires room { length loaded.store + options.now.budget < 4294967294 }
     ensures proves { Proves name.now loaded.variables options.now.budget loaded.store (W.seen world.old) (W.seen world.new) result }
     ensures follows { W.follows world.old world.new }
 {
-    match world.create_output(OutRole::Proof, name) {
-        Ok(()) => {}
-        Err(Failed::Fault) => return Err(Refusal::Open(Place::Proof)),
-        Err(Failed::NoMemory) => return Err(Refusal::Memory),
+    if let Err(failed) = world.create_output(OutRole::Proof, name) {
+        return Err(blame(Place::Proof, Trouble::Open, failed));
     }
     match solve_into_file(alloc, world, loaded, options) {
         Ok(answer) => Ok(answer),
-        Err(SolveError::WriteFault) => Err(Refusal::Write(Place::Proof)),
+        Err(SolveError::WriteFault) => Err(Refusal::At(Place::Proof, Trouble::Write)),
         Err(SolveError::NoMemory) => Err(Refusal::Memory),
     }
 }
@@ -50,12 +47,12 @@ fn solve_into_file<W: World>(
 ) -> Result<Answer, SolveError>
     requires there { IsTrue ((W.seen world.old).is_there Proof) }
     requires empty { HoldsSteps Proof (W.seen world.old) [] None }
-    requires few { loaded.variables ≤ 4194303 }
+    requires few { loaded.variables ≤ MAX_VARIABLE }
     requires within { WithinVariables loaded.variables loaded.store }
     requires room { length loaded.store + options.now.budget < 4294967294 }
     ensures onward { Onward Proof (W.seen world.old) (W.seen world.new) }
-    ensures ok { IfOk result (λ a. (steps : List Step) × ValidSteps loaded.store steps × HoldsSteps Proof (W.seen world.new) steps None × Concludes loaded.store loaded.variables options.now.budget steps a × NewSteps loaded.variables loaded.store steps × (learned_in steps ≤ options.now.budget)) }
-    ensures err { OnErr result ((steps : List Step) × (torn : Option Step) × Lawful loaded.variables options.now.budget loaded.store steps torn × HoldsSteps Proof (W.seen world.new) steps torn) }
+    ensures ok { IfOk result (λ a. Finds loaded.variables options.now.budget loaded.store (W.seen world.new) a) }
+    ensures err { OnErr result (WritesPart loaded.variables options.now.budget loaded.store (W.seen world.new)) }
     ensures fault { IsErrOf result SolveError.WriteFault → Rose ((W.seen world.old).write_faults Proof) ((W.seen world.new).write_faults Proof) }
     ensures follows { W.follows world.old world.new }
 {

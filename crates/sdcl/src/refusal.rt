@@ -1,16 +1,11 @@
 //! Why a run ends without a verdict, and the line that says so.
-ghost use Rattle.std.specs.Prelude.{◌≡◌, ◌⊎◌, ◌≤◌, ◌+◌, ◌++◌, IsTrue, IsErrOf, codes, decimal, length};
-ghost use Rattle.sdcl_io.specs.World.{OnlyWrote, Calm};
+ghost use Rattle.std.specs.Prelude.{◌≡◌, ◌≤◌, ◌++◌, IsTrue, codes, length};
 ghost use Rattle.sdcl_io.specs.declared.world.OutRole.TheVariants as output;
-ghost use Rattle.sdcl_dimacs.specs.Faults.{kind_code as formula_code};
-ghost use Rattle.sdcl_proof.specs.Faults.{kind_code as proof_code};
-ghost use Rattle.sdcl.specs.Refusals.{status_of, place_name, place_of, refusal_line, Complains};
+ghost use Rattle.sdcl.specs.Refusals.{status_of, place_name, trouble_text, refusal_line, blamed, Complains};
 
 use crate::line::Line;
 use crate::status::Status;
-use sdcl_dimacs::FormulaFault;
-use sdcl_io::{Failed, InRole, OutRole, World, write_all};
-use sdcl_proof::ProofFault;
+use sdcl_io::{Failed, OutRole, World, write_all};
 
 /// A file or stream of a run, by its name in messages.
 #[derive(Clone, Copy, Debug, PartialEq, Eq)]
@@ -20,16 +15,19 @@ pub enum Place {
     Out,
 }
 
-impl Place {
-    /// The file that an input of this role reads.
-    pub fn of(role: InRole) -> Place
-        ensures { result ≡ place_of role }
-    {
-        match role {
-            InRole::Formula => Place::Formula,
-            InRole::Proof => Place::Proof,
-        }
-    }
+/// What went wrong at a place.
+#[derive(Clone, Copy, Debug, PartialEq, Eq)]
+pub enum Trouble {
+    /// The file could not be opened or created.
+    Open,
+    /// The file could not be read.
+    Read,
+    /// The file or stream could not be written.
+    Write,
+    /// The text has a fault, of this kind and at this offset.
+    Fault { kind: u8, offset: u64 },
+    /// The text is over its limit of so many bytes.
+    Over { limit: u64 },
 }
 
 /// Why a run ends without a verdict.
@@ -37,20 +35,23 @@ impl Place {
 pub enum Refusal {
     /// The words name no command.
     Usage,
-    /// The formula's text has a fault.
-    FormulaGrammar(FormulaFault),
-    /// The proof's text has a fault.
-    ProofGrammar(ProofFault),
-    /// A file could not be opened or created.
-    Open(Place),
-    /// A file could not be read.
-    Read(InRole),
-    /// A file or standard output could not be written.
-    Write(Place),
     /// Memory was not found.
     Memory,
-    /// A file's text is over its limit.
-    Over(InRole),
+    /// Something went wrong at a place.
+    At(Place, Trouble),
+}
+
+impl Place {
+    fn name(self) -> &'static [u8]
+        ensures name { result.now ≡ place_name self }
+        ensures short { length result.now ≤ 7 }
+    {
+        match self {
+            Place::Formula => b"formula",
+            Place::Proof => b"proof",
+            Place::Out => b"out",
+        }
+    }
 }
 
 impl Refusal {
@@ -60,13 +61,12 @@ impl Refusal {
     {
         match self {
             Refusal::Usage => Status::Usage,
-            Refusal::FormulaGrammar(_) => Status::Grammar,
-            Refusal::ProofGrammar(_) => Status::Grammar,
-            Refusal::Open(_) => Status::OpenFault,
-            Refusal::Read(_) => Status::ReadFault,
-            Refusal::Write(_) => Status::WriteFault,
             Refusal::Memory => Status::Memory,
-            Refusal::Over(_) => Status::Limit,
+            Refusal::At(_, Trouble::Open) => Status::OpenFault,
+            Refusal::At(_, Trouble::Read) => Status::ReadFault,
+            Refusal::At(_, Trouble::Write) => Status::WriteFault,
+            Refusal::At(_, Trouble::Fault { .. }) => Status::Grammar,
+            Refusal::At(_, Trouble::Over { .. }) => Status::Limit,
         }
     }
 
@@ -76,42 +76,40 @@ impl Refusal {
     {
         match self {
             Refusal::Usage => Line::of(b"sdcl: usage\n"),
-            Refusal::FormulaGrammar(fault) => formula_line(fault),
-            Refusal::ProofGrammar(fault) => proof_line(fault),
-            Refusal::Open(place) => place_line(b"sdcl: open fault ", place),
-            Refusal::Read(role) => place_line(b"sdcl: read fault ", Place::of(role)),
-            Refusal::Write(place) => place_line(b"sdcl: write fault ", place),
             Refusal::Memory => Line::of(b"sdcl: out of memory\n"),
-            Refusal::Over(InRole::Formula) => Line::of(b"sdcl: formula over 134217728 bytes\n"),
-            Refusal::Over(InRole::Proof) => Line::of(b"sdcl: proof over 536870912 bytes\n"),
+            Refusal::At(place, trouble) => trouble_line(place.name(), trouble),
         }
     }
 }
 
-fn place_line(before: &[u8], place: Place) -> Line
-    requires { length before.now ≤ 20 }
-    ensures { result ≡ before.now ++ place_name place ++ codes "\n" }
+fn trouble_line(name: &[u8], trouble: Trouble) -> Line
+    requires { length name.now ≤ 7 }
+    ensures { result ≡ codes "sdcl: " ++ trouble_text name.now trouble ++ codes "\n" }
 {
-    let name: &[u8] = match place {
-        Place::Formula => b"formula",
-        Place::Proof => b"proof",
-        Place::Out => b"out",
-    };
-    Line::of(before).and(name).and(b"\n")
+    let line = Line::of(b"sdcl: ");
+    match trouble {
+        Trouble::Open => line.and(b"open fault ").and(name).and(b"\n"),
+        Trouble::Read => line.and(b"read fault ").and(name).and(b"\n"),
+        Trouble::Write => line.and(b"write fault ").and(name).and(b"\n"),
+        Trouble::Fault { kind, offset } => {
+            let line = line.and(name).and(b" fault ").and_number(u64::from(kind));
+            line.and(b" at ").and_number(offset).and(b"\n")
+        }
+        Trouble::Over { limit } => {
+            let line = line.and(name).and(b" over ").and_number(limit);
+            line.and(b" bytes").and(b"\n")
+        }
+    }
 }
 
-fn formula_line(fault: FormulaFault) -> Line
-    ensures { result ≡ codes "sdcl: formula fault " ++ decimal (formula_code fault.kind) ++ codes " at " ++ decimal fault.offset ++ codes "\n" }
+/// The refusal for a call at this place that failed, where a fault of the world is this trouble.
+pub fn blame(place: Place, trouble: Trouble, failed: Failed) -> Refusal
+    ensures { result ≡ blamed place trouble failed }
 {
-    let line = Line::of(b"sdcl: formula fault ").and_number(u64::from(fault.kind.code()));
-    line.and(b" at ").and_number(fault.offset).and(b"\n")
-}
-
-fn proof_line(fault: ProofFault) -> Line
-    ensures { result ≡ codes "sdcl: proof fault " ++ decimal (proof_code fault.kind) ++ codes " at " ++ decimal fault.offset ++ codes "\n" }
-{
-    let line = Line::of(b"sdcl: proof fault ").and_number(u64::from(fault.kind.code()));
-    line.and(b" at ").and_number(fault.offset).and(b"\n")
+    match failed {
+        Failed::Fault => Refusal::At(place, trouble),
+        Failed::NoMemory => Refusal::Memory,
+    }
 }
 
 /// Says on standard error why the run ends, and answers its status. Where memory is wanted for the saying,
@@ -119,8 +117,6 @@ fn proof_line(fault: ProofFault) -> Line
 pub fn complain<W: World>(world: &mut W, refusal: Refusal) -> Status
     requires { IsTrue ((W.seen world.old).is_there output.Err) }
     ensures complains { Complains refusal (W.seen world.old) (W.seen world.new) result }
-    ensures only { OnlyWrote output.Err (W.seen world.old) (W.seen world.new) }
-    ensures calm { Calm (W.seen world.old) (W.seen world.new) }
     ensures follows { W.follows world.old world.new }
 {
     match write_all(world, OutRole::Err, refusal.line().bytes()) {

@@ -1,6 +1,8 @@
 //! The texts that the program prints.
 ghost use Rattle.std.specs.Prelude.{◌≡◌, ◌≤◌, ◌<◌, ◌+◌, ◌++◌, ◌∷◌, ℕ, List, IfOk, OnOk, length};
 ghost use Rattle.sdcl_base.specs.Values.{IsTotal};
+ghost use Rattle.sdcl_base.specs.declared.lit.TheConstants.{MAX_VARIABLE};
+ghost use Rattle.sdcl.specs.declared.texts.TheConstants.{WORDS_ON_LINE};
 ghost use Rattle.sdcl_proof.specs.Lines.{literal_text};
 ghost use Rattle.sdcl.specs.Texts.{satisfiable_text, v_lines};
 
@@ -9,11 +11,11 @@ use sdcl_base::{Assignment, NoMemory};
 use std::alloc::Global;
 
 /// The words on a line of values.
-const WORDS_ON_LINE: u32 = 12;
+pub const WORDS_ON_LINE: u32 = 12;
 
 /// The verdict that a formula has a model, with the model's lines of values.
 pub fn satisfiable(alloc: Global, model: &Assignment, variables: u32) -> Result<Vec<u8>, NoMemory>
-    requires few { variables ≤ 4194303 }
+    requires few { variables ≤ MAX_VARIABLE }
     requires total { IsTotal variables model.now }
     ensures { IfOk result (λ text. text.items ≡ satisfiable_text variables model.now) }
 {
@@ -31,8 +33,8 @@ pub fn satisfiable(alloc: Global, model: &Assignment, variables: u32) -> Result<
 // Appends what parts a word from the one before it: a space, or the start of a new line where this one has
 // no room. Answers how many words more the line then takes.
 fn push_gap(text: &mut Vec<u8>, room: u32) -> Result<u32, NoMemory>
-    requires { room ≤ 12 }
-    ensures small { IfOk result (λ left. left ≤ 12) }
+    requires { room ≤ WORDS_ON_LINE }
+    ensures small { IfOk result (λ left. left ≤ WORDS_ON_LINE) }
     ensures text { IfOk result (λ left. (word : List ℕ) (words : List (List ℕ)) → text.new.items ++ (word ++ v_lines left words) ≡ text.old.items ++ v_lines room (word ∷ words)) }
 {
     if room == 0 {

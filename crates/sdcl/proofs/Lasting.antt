@@ -1,0 +1,169 @@
+-- What each command must have, it has: one row a command.
+use Rattle.std.proofs.Common.{◌≡◌, ◌∙◌, inl, inr, ℕ, List, Option, Some, None, Err, IsTrue, refl, sym, subst, arith}
+use Rattle.sdcl_base.specs.Literal.{Clause}
+use Rattle.sdcl_io.specs.declared.world.InRole.TheVariants as input
+use Rattle.sdcl_io.specs.declared.world.OutRole.TheVariants as output
+use Rattle.sdcl_io.specs.World.{Seen}
+use Rattle.sdcl_io.specs.Step.{Step, Ending, Judgement, Ended}
+use Rattle.sdcl_dimacs.specs.FormulaText.{FormulaText, Accepted, FormulaFault, FormulaOver, formula_text}
+use Rattle.sdcl_proof.specs.Files.{HoldsSteps}
+use Rattle.sdcl_prcheck.specs.declared.verdict.Verdict.{Verdict as Found}
+use Rattle.sdcl_prcheck.specs.declared.verdict.Verdict.TheVariants as found
+use Rattle.sdcl.specs.declared.loading.TheConstants.{FORMULA_LIMIT}
+use Rattle.sdcl.specs.declared.verdict.Verdict.{Verdict}
+use Rattle.sdcl.specs.declared.refusal.Refusal.TheVariants.{Usage}
+use Rattle.sdcl.specs.Starting.{IsFresh}
+use Rattle.sdcl.specs.Meaning.{Performs}
+use Rattle.sdcl.specs.Commands.{Names, Plan, Solve, Check}
+use Rattle.sdcl.specs.Loading.{StandsFor, IsSoundFormula, IsReadOut, formula_in}
+use Rattle.sdcl.specs.Judging.{JudgedAs, IsReadTo, judgement, judgement_in}
+use Rattle.sdcl.specs.Solving.{HoldsProof, Solves, solving}
+use Rattle.sdcl.specs.Checking.{IsJudgedAs, IsSoundProof, IsVerified, Checks, checking, proof_in}
+use Rattle.sdcl.specs.Running.{meaning_of, refusing}
+use Rattle.sdcl.proofs.Roles.{proof_not_out, proof_not_err}
+use Rattle.sdcl.proofs.Streams.{OnlyStreams, OnlyReads, made_nothing, read_nothing_made, keeps_reading}
+use Rattle.sdcl.proofs.Laws.{IsLawfulInput, IsLawful}
+
+-- ---- a sound text has no trouble
+
+-- a text has one meaning
+one_meaning : (told : Option (List ℕ)) (text : List ℕ) (m n : FormulaText) → told ≡ Some text → formula_text FORMULA_LIMIT text ≡ m → StandsFor told n → m ≡ n
+one_meaning None text m n e h k = absurd cc
+one_meaning (Some bytes) text m n e h k = let q : bytes ≡ text = cc in sym h ∙ subst (λ x. formula_text FORMULA_LIMIT x ≡ n) q k
+
+accepted_is_no_fault : (variables at kind : ℕ) (f : List Clause) → Accepted variables f ≡ FormulaFault at kind → ⊥
+accepted_is_no_fault variables at kind f e = cc
+
+accepted_is_not_over : (variables : ℕ) (f : List Clause) → Accepted variables f ≡ FormulaOver → ⊥
+accepted_is_not_over variables f e = cc
+
+accepted_same : (variables v : ℕ) (f g : List Clause) → Accepted variables f ≡ Accepted v g → f ≡ g
+accepted_same variables v f g e = cc
+
+lawful_formula : (name : List ℕ) → IsLawfulInput (formula_in name)
+lawful_formula name = record {
+  faulty = λ s kind offset d h.
+      accepted_is_no_fault d.variables offset kind d.clauses (one_meaning (s.file name) d.bytes (Accepted d.variables d.clauses) (FormulaFault offset kind) d.told d.text h);
+  over = λ s limit d h. accepted_is_not_over d.variables d.clauses (one_meaning (s.file name) d.bytes (Accepted d.variables d.clauses) FormulaOver d.told d.text h.1);
+}
+
+verdict_is_no_ending : (v : Found) (ending : Ending) → judgement_in v ≡ Ended ending → ⊥
+verdict_is_no_ending found.Verified ending e = cc
+verdict_is_no_ending (found.NotVerified k) ending e = cc
+
+one_judgement : (told : Option (List ℕ)) (proof : List ℕ) (f : List Clause) (i j : Judgement) → told ≡ Some proof → judgement f proof ≡ i → JudgedAs f told j → i ≡ j
+one_judgement None proof f i j e h k = absurd cc
+one_judgement (Some bytes) proof f i j e h k = let q : bytes ≡ proof = cc in sym h ∙ subst (λ x. judgement f x ≡ j) q k
+
+not_ended : (names : Names) (s : Seen) (ending : Ending) → IsSoundProof names s → IsJudgedAs names s (Ended ending) → ⊥
+not_ended names s ending d h =
+    let f : IsSoundFormula names.formula s = d.formula in
+    let same : f.clauses ≡ h.clauses =
+    accepted_same f.variables h.variables f.clauses h.clauses (one_meaning (s.file names.formula) f.bytes (Accepted f.variables f.clauses) (Accepted h.variables h.clauses) f.told f.text h.text) in
+    verdict_is_no_ending d.found ending
+    (one_judgement (s.file names.proof) d.bytes h.clauses (judgement_in d.found) (Ended ending) d.told (subst (λ g. judgement g d.bytes ≡ judgement_in d.found) same d.judged) h.judged)
+
+lawful_proof : (names : Names) → IsLawfulInput (proof_in names)
+lawful_proof names = record { faulty = λ s kind offset d h. not_ended names s _ d h; over = λ s limit d h. not_ended names s _ d h.1 }
+
+-- ---- what stays while a line is printed or said
+
+steps_stay : (s t : Seen) (steps : List Step) (torn : Option Step) → t.tells ≡ s.tells → t.held output.Proof ≡ s.held output.Proof
+    → HoldsSteps output.Proof s steps torn → HoldsSteps output.Proof t steps torn
+steps_stay s t steps None e h k = λ tells. h ∙ k (subst IsTrue e tells)
+steps_stay s t steps (Some step) e h k = (k.0, k.1, (λ tells. h ∙ k.2 (subst IsTrue e tells)))
+
+holds_proof : (names : Names) (s t u : Seen) → OnlyStreams t u → HoldsProof names s t → HoldsProof names s u
+holds_proof names s t u w h =
+    let same : u.held output.Proof ≡ t.held output.Proof = w.outputs output.Proof proof_not_out proof_not_err in
+    record {
+      variables = h.variables;
+      clauses = h.clauses;
+      text = h.text;
+      made = record {
+        there = subst IsTrue (sym (w.there output.Proof)) h.made.there;
+        file = λ tells. w.files names.proof ∙ h.made.file (subst IsTrue w.later.tells tells) ∙ sym same;
+      };
+      written = record {
+        steps = h.written.steps;
+        torn = h.written.torn;
+        lawful = h.written.lawful;
+        holds = steps_stay t u h.written.steps h.written.torn w.later.tells same h.written.holds;
+      };
+    }
+
+solves : (names : Names) (s t u : Seen) (v : Verdict) → OnlyStreams t u → Solves names s t v → Solves names s u v
+unfolding holds_proof
+solves names s t u v w h = record {
+  proof = holds_proof names s t u w h.proof;
+  whole = h.whole;
+  answer = h.answer;
+  is = h.is;
+  bears = h.bears;
+  refuted = h.refuted;
+  read_out = λ tells. subst (IsReadOut (s.file names.formula)) (sym (w.inputs input.Formula)) (h.read_out tells);
+}
+
+verified : (names : Names) (s t u : Seen) (f : List Clause) (steps : List Step) → OnlyStreams t u → IsVerified names s t f steps → IsVerified names s u f steps
+verified names s t u f steps w h = record { unsatisfiable = h.unsatisfiable; read_to = subst (IsReadTo steps (s.file names.proof)) (sym (w.inputs input.Proof)) h.read_to }
+
+checks : (names : Names) (s t u : Seen) (v : Verdict) → OnlyStreams t u → Checks names s t v → Checks names s u v
+checks names s t u v w h = record {
+  found = h.found;
+  is = h.is;
+  judged = h.judged;
+  steps = h.steps;
+  valid = h.valid;
+  bears = h.bears;
+  verified = λ e. verified names s t u h.judged.clauses h.steps w (h.verified e);
+  read_out = subst (IsReadOut (s.file names.formula)) (sym (w.inputs input.Formula)) h.read_out;
+  made_nothing = made_nothing w h.made_nothing;
+}
+
+-- ---- a row a command
+
+solve_lawful : (names : Names) → IsLawful (solving names)
+solve_lawful names = record {
+  gives = solves names;
+  leaves = λ s t u w h. elim h [ inl a ↦ inl (made_nothing w a) | inr a ↦ inr (holds_proof names s t u w a) ];
+  left = λ s t v h. inr h.proof;
+  inputs = (lawful_formula names.formula, tt);
+}
+
+check_lawful : (names : Names) → IsLawful (checking names)
+check_lawful names = record {
+  gives = checks names;
+  leaves = λ s t u w h. made_nothing w h;
+  left = λ s t v h. h.made_nothing;
+  inputs = (lawful_formula names.formula, (lawful_proof names, tt));
+}
+
+refusing_lawful : IsLawful refusing
+refusing_lawful = record { gives = λ s t u v w h. h; leaves = λ s t u w h. made_nothing w h; left = λ s t v h. absurd h; inputs = tt }
+
+pub lawful : (asked : Option Plan) → IsLawful (meaning_of asked)
+lawful None = refusing_lawful
+lawful (Some (Solve names)) = solve_lawful names
+lawful (Some (Check names)) = check_lawful names
+
+-- ---- words that ask for no command
+
+none_read : (s : Seen) → OnlyReads s s
+none_read s = record {
+  files = λ n. refl;
+  there = λ r. refl;
+  outputs = λ r. refl;
+  names = λ r. refl;
+  later = record { memory = refl; tells = refl; reads = λ r. omega arith; writes = λ r. omega arith; opens = λ r n. omega arith; creates = λ r n. omega arith; calm = λ c. c };
+}
+
+pub nothing_asked : {s : Seen} → IsFresh s → Performs refusing s s (Err Usage)
+nothing_asked {s} fresh = record {
+  ok = tt;
+  err = record { shown = (refl, refl); leaves = read_nothing_made fresh (none_read s) };
+  out = refl;
+  silent = refl;
+  there = (refl, refl);
+  keeps = keeps_reading (none_read s);
+  calm = λ calm told. record { reads = λ r. refl; writes = λ r. refl; opens = λ r n. refl; creates = λ r n. refl };
+}

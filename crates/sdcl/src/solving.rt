@@ -1,0 +1,45 @@
+//! The command `solve`: an assignment, or a proof that there is none.
+ghost use Rattle.std.specs.Prelude.{◌≡◌};
+ghost use Rattle.sdcl.specs.Starting.{IsFresh};
+ghost use Rattle.sdcl.specs.Meaning.{Performs};
+ghost use Rattle.sdcl.specs.Solving.{solving, verdict_of_answer};
+
+use crate::loading::load;
+use crate::proving::prove;
+use crate::refusal::Refusal;
+use crate::verdict::Verdict;
+use sdcl_io::World;
+use sdcl_outer::{Answer, Options};
+use std::alloc::Global;
+
+/// The clauses that a run learns at most.
+pub const BUDGET: u64 = 10_000_000;
+
+/// Reads the formula, and solves it with its proof written on the way.
+pub fn solve<W: World>(
+    alloc: Global,
+    world: &mut W,
+    formula: &str,
+    proof: &str,
+) -> Result<Verdict, Refusal>
+    requires fresh { IsFresh (W.seen world.old) }
+    requires differ { formula.now ≡ proof.now → ⊥ }
+    ensures performs { Performs (solving (record { formula = formula.now; proof = proof.now })) (W.seen world.old) (W.seen world.new) result }
+    ensures follows { W.follows world.old world.new }
+{
+    let loaded = load(alloc, world, formula)?;
+    let variables = loaded.variables;
+    let answer = prove(alloc, world, proof, loaded, &Options { budget: BUDGET })?;
+    Ok(verdict_of(answer, variables))
+}
+
+// The solver's answer as a verdict.
+fn verdict_of(answer: Answer, variables: u32) -> Verdict
+    ensures { result ≡ verdict_of_answer variables answer }
+{
+    match answer {
+        Answer::Model(model) => Verdict::Satisfiable { model, variables },
+        Answer::Refuted => Verdict::Unsatisfiable,
+        Answer::Spent => Verdict::Unknown,
+    }
+}
