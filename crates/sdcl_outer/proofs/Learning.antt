@@ -17,9 +17,6 @@ use Rattle.sdcl_base.specs.Literal.{Literal, Clause, negated, has, union, comple
 use Rattle.sdcl_base.specs.Sets.{In, WithinVariables}
 use Rattle.sdcl_base.specs.Marks.{firsts, no_repeats}
 use Rattle.sdcl_base.proofs.In.{in_append_left, in_append_right, in_append_cases, in_map_from, in_has, has_in}
-use Rattle.sdcl_outer.specs.Levels.{decisions, Within}
-use Rattle.sdcl_outer.specs.declared.entry.Entry.{Entry}
-use Rattle.sdcl_outer.proofs.Trails.{decisions_in}
 
 -- ---- a clause without repeats is the list of its first occurrences
 
@@ -40,18 +37,6 @@ pub firsts_distinct : (c : Clause) → no_repeats c ≡ true → firsts c ≡ c
 firsts_distinct c n = union_distinct [] c n
 
 -- ---- the clause's variables
-
-pub within_more : (n : ℕ) (f : List Clause) (es : List Entry) → WithinVariables n f → Within n es → WithinVariables n (f ++ complements (decisions es) ∷ [])
-within_more n f es w k d l i j =
-    elim (in_append_cases f (complements (decisions es) ∷ []) d i) [
-      | inl h ↦ w d l h j
-      | inr (inl e) ↦
-          let r : (m : Literal) × In (decisions es) m × (l ≡ negated m) = in_map_from negated (decisions es) l (subst (λ c. In c l) e j) in
-          let p : (1 ≤ r.0.var) × (r.0.var ≤ n) = k r.0 (decisions_in es r.0 r.1) in
-          let q : l.var ≡ r.0.var = ap (λ m. m.var) r.2 in
-          (omega (arith, p.0, q), omega (arith, p.1, q))
-      | inr (inr h) ↦ absurd h
-    ]
 
 -- a clause over these variables joins
 pub within_added : (n : ℕ) (f : List Clause) (c : Clause) → WithinVariables n f → ((l : Literal) → In c l → (1 ≤ l.var) × (l.var ≤ n)) → WithinVariables n (f ++ firsts c ∷ [])
@@ -259,3 +244,8 @@ breaks_learning tells old mid new f g n k budget s h b t w v a (inr (inr d)) = (
   new_more n f g k s h w a,
   affordable_more f g k budget s h b,
 )
+
+-- no step was told since
+pub breaks_stopped : {S : Type 0} (tells : S → List Step → Option Step → Type 0) (old new : S) (f g : List Clause) (n k budget : ℕ) → Learned f g k → k ≤ budget
+    → IsTold tells old new (steps_of f g) None → NewSteps n f (steps_of f g) → Breaks tells old new f n budget
+breaks_stopped tells old new f g n k budget h b t w = (steps_of f g, None, t, h.valid, tt, w, affordable f g k budget h b)

@@ -1,6 +1,6 @@
-pub mod Trails
-pub mod Looking
-pub mod Justifying
-pub mod Sweeping
 pub mod Learning
-pub mod Choosing
+pub mod Seen
+pub mod Engines
+pub mod Joining
+pub mod Assigned
+pub mod Refuted

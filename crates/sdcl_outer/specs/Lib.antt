@@ -1,5 +1,4 @@
-pub mod Levels
-pub mod Scanning
 pub mod Errors
-pub mod Telling
 pub mod Outcome
+pub mod Searching
+pub mod Telling

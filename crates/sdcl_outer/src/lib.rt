@@ -1,12 +1,14 @@
-//! The solver's loop over a formula: unit propagation, decisions in the order of the variables, and a learned
-//! clause at each conflict.
+//! The solver's loop over a formula: unit propagation with watched literals, decisions in the order of the variables,
+//! and a learned clause at each conflict.
 #![tactic(auto)]
 
-mod entry;
-mod propagation;
+mod attaching;
+mod blocking;
+mod deciding;
+pub mod search;
 pub mod solving;
 #[cfg(test)]
 mod tests;
-mod trail;
+mod values;
 
 pub use solving::{Answer, Options, SolveError, solve};

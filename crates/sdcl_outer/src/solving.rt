@@ -1,18 +1,24 @@
 //! The solver's loop.
-ghost use Rattle.std.specs.Prelude.{◌≡◌, ◌≤◌, ◌<◌, ◌+◌, length, [], ◌∷◌, ◌++◌, None, IfOk, OnOk, OnErr, IsErrOf};
+ghost use Rattle.std.specs.Prelude.{◌≡◌, ◌≤◌, ◌<◌, ◌+◌, length, [], ◌∷◌, ◌++◌, None, true, IfOk, OnOk, OnErr, IsErrOf};
 ghost use Rattle.sdcl_io.specs.World.{Rose};
 ghost use Rattle.sdcl_base.specs.Literal.{complements};
+ghost use Rattle.sdcl_base.specs.Propagation.{refutes};
+ghost use Rattle.sdcl_base.specs.Sets.{WithinVariables};
+ghost use Rattle.sdcl_base.specs.declared.lit.TheConstants.{MAX_VARIABLE};
 ghost use Rattle.sdcl_io.specs.Step.{Add};
-ghost use Rattle.sdcl_outer.specs.Levels.{decisions};
+ghost use Rattle.sdcl_store.specs.Stores.{clauses_in};
+ghost use Rattle.sdcl_trail.specs.Levels.{decisions};
 ghost use Rattle.sdcl_outer.specs.Telling.{IsTold, MayBeTold};
 ghost use Rattle.sdcl_outer.specs.Outcome.{Answers, Breaks};
-ghost use Rattle.sdcl_base.specs.Sets.{WithinVariables};
+ghost use Rattle.sdcl_outer.specs.Searching.{IsInOrder, Joins};
 ghost use Rattle.sdcl_outer.specs.Errors.{error_of};
 
-use crate::propagation::descend;
-use crate::trail::Trail;
-use sdcl_base::{Assignment, NoMemory, Store};
+use crate::blocking::blocking_clause;
+use crate::search::Search;
+use crate::values::values_of;
+use sdcl_base::Assignment;
 use sdcl_io::{Failed, ProofOut};
+use sdcl_store::Store;
 use std::alloc::Global;
 use thiserror::Error;
 
@@ -66,61 +72,54 @@ pub fn solve<S: ProofOut>(
     sink: &mut S,
 ) -> Result<Answer, SolveError>
     requires ready { S.ready sink.old }
-    requires few_variables { variables ≤ 4194303 }
-    requires within { WithinVariables variables store }
-    requires room { length store + options.now.budget < 4294967294 }
+    requires few_variables { variables ≤ MAX_VARIABLE }
+    requires within { WithinVariables variables (clauses_in store) }
+    requires room { length store.slots + options.now.budget < 4294967294 }
     ensures follows { S.follows sink.old sink.new }
     ensures later { S.faults sink.old ≤ S.faults sink.new }
     ensures aside { S.aside sink.new ≡ S.aside sink.old }
     ensures ready { OnOk result (S.ready sink.new) }
     ensures fault { IsErrOf result SolveError.WriteFault → Rose (S.faults sink.old) (S.faults sink.new) }
-    ensures ok { IfOk result (λ a. Answers S.tells sink.old sink.new store variables options.now.budget a) }
-    ensures err { OnErr result (Breaks S.tells sink.old sink.new store variables options.now.budget) }
+    ensures ok { IfOk result (λ a. Answers S.tells sink.old sink.new (clauses_in store) variables options.now.budget a) }
+    ensures err { OnErr result (Breaks S.tells sink.old sink.new (clauses_in store) variables options.now.budget) }
 {
-    let mut store = store;
     let mut learned: u64 = 0;
-    let mut trail = Trail::new(alloc, variables).map_err(|_| SolveError::NoMemory)?;
-    'learning: while descend(&store, &mut trail) {
-        if trail.is_at_root() {
+    let mut search = Search::new(alloc, store, variables).map_err(|_| SolveError::NoMemory)?;
+    // the store has the formula's clauses and those of the additions that were told, `learned` in all
+    'learning: while search.descend() {
+        if search.trail.level() == 0 {
             sink.add(&[], &[])?;
             return Ok(Answer::Refuted);
         }
         if learned == options.budget {
             return Ok(Answer::Spent);
         }
-        learn(alloc, &trail, &mut store, sink)?;
+        learn(alloc, &mut search, sink)?;
         learned += 1;
-        trail.undo_level();
     }
-    Ok(Answer::Model(trail.into_values()))
+    let model = values_of(alloc, &search.trail, variables).map_err(|_| SolveError::NoMemory)?;
+    Ok(Answer::Model(model))
 }
 
-// Tells the sink the clause of the complements of the decisions, and adds it to the store.
-fn learn<S: ProofOut>(
-    alloc: Global,
-    trail: &Trail,
-    store: &mut Store,
-    sink: &mut S,
-) -> Result<(), SolveError>
+// Tells the sink the clause of the complements of the decisions, adds it to the store, and goes back a level.
+fn learn<S: ProofOut>(alloc: Global, search: &mut Search, sink: &mut S) -> Result<(), SolveError>
     requires ready { S.ready sink.old }
-    requires room { length store.old < 4294967295 }
-    requires within { WithinVariables trail.now.variables store.old }
+    requires in_order { IsInOrder search.old }
+    requires decided { 0 < length search.old.trail.starts }
+    requires room { length search.old.store.slots < 4294967295 }
     ensures follows { S.follows sink.old sink.new }
     ensures later { S.faults sink.old ≤ S.faults sink.new }
     ensures aside { S.aside sink.new ≡ S.aside sink.old }
     ensures ready { OnOk result (S.ready sink.new) }
     ensures fault { IsErrOf result SolveError.WriteFault → Rose (S.faults sink.old) (S.faults sink.new) }
-    ensures added { OnOk result (store.new ≡ store.old ++ complements (decisions trail.now.entries) ∷ []) }
-    ensures within { OnOk result (WithinVariables trail.now.variables store.new) }
-    ensures told { OnOk result (IsTold S.tells sink.old sink.new (Add (complements (decisions trail.now.entries)) ∷ []) None) }
-    ensures torn { OnErr result (MayBeTold S.tells sink.old sink.new (Add (complements (decisions trail.now.entries)))) }
+    ensures joins { OnOk result (Joins search.old search.new) }
+    ensures told { OnOk result (IsTold S.tells sink.old sink.new (Add (complements (decisions search.old.trail)) ∷ []) None) }
+    ensures torn { OnErr result (MayBeTold S.tells sink.old sink.new (Add (complements (decisions search.old.trail)))) }
 {
-    let clause = trail
-        .blocking_clause(alloc)
-        .map_err(|_| SolveError::NoMemory)?;
+    let clause = blocking_clause(alloc, &search.trail).map_err(|_| SolveError::NoMemory)?;
     sink.add(clause.as_slice(), &[])?;
-    store
-        .add(clause.as_slice())
+    search
+        .join(clause.as_slice())
         .map_err(|_| SolveError::NoMemory)?;
     Ok(())
 }

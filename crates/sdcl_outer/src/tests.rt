@@ -3,10 +3,12 @@
 ghost use Rattle.std.specs.Prelude.{◌≤◌, ◌<◌, IfOk, IfSome, IsErrOf, length};
 ghost use Rattle.sdcl_io.specs.World.{Rose};
 ghost use Rattle.sdcl_base.specs.Sets.{WithinVariables};
+ghost use Rattle.sdcl_store.specs.Stores.{clauses_in};
 
 use crate::{Answer, Options, SolveError, solve};
-use sdcl_base::{Lit, NoMemory, Store};
+use sdcl_base::{Lit, NoMemory};
 use sdcl_io::{Discard, Failed, ProofOut};
+use sdcl_store::Store;
 use std::alloc::{AllocError, Global};
 use std::process::Abort;
 use std::test::Fail;
@@ -93,8 +95,8 @@ fn literal_of(n: i64, variables: u32) -> Option<Lit>
 // The clauses of the numbers. A literal of a variable that is not in range is left out.
 pub fn store_of(alloc: Global, numbers: &[i64], variables: u32) -> Result<Store, NoMemory>
     requires { length numbers.now < 100000 }
-    ensures within { IfOk result (λ f. WithinVariables variables f) }
-    ensures short { IfOk result (λ f. length f ≤ length numbers.now) }
+    ensures within { IfOk result (λ f. WithinVariables variables (clauses_in f)) }
+    ensures short { IfOk result (λ f. length f.slots ≤ length numbers.now) }
 {
     let mut store = Store::new(alloc);
     let mut clause = Vec::new(alloc);

@@ -1,138 +1,190 @@
-use Rattle.std.proofs.Common.{◌≡◌, ◌∙◌, ◌++◌, ◌∷◌, [], None, IsSome, true, refl, sym, ap, subst, rules, arith, length, length-append, unwrap_or, false}
-use Rattle.std.proofs.lemmas.Bool.{true≢false}
-use Rattle.sdcl_base.specs.Literal.{complements}
+use Rattle.std.proofs.Common.{◌≡◌, ◌∙◌, ◌≤◌, ◌<◌, ◌++◌, ◌∷◌, [], None, true, false, refl, sym, ap, subst, rules, arith, length, length-append}
+use Rattle.sdcl_base.specs.Literal.{Clause, complements}
 use Rattle.sdcl_base.specs.Values.{truth_of}
 use Rattle.sdcl_base.specs.Propagation.{refutes}
 use Rattle.sdcl_io.specs.Step.{Add}
-use Rattle.sdcl_outer.specs.Levels.{Levels, decisions, value_in, Within}
-use Rattle.sdcl_outer.specs.Outcome.{Breaks, AreRefuted, IsNewClause}
-use Rattle.sdcl_outer.specs.Scanning.{Justified, Chosen, IsModel}
-use Rattle.sdcl_base.specs.Sets.{WithinVariables}
-use Rattle.sdcl_outer.proofs.Justifying.{learned_justified, meets_same}
-use Rattle.sdcl_outer.proofs.Choosing.{learned_chosen, learned_new, are_decisions}
-use Rattle.sdcl_outer.proofs.Learning.{steps_of, steps_more, learned_none, learned_more, told_start, told_on, new_start, new_more, on_err, breaks_at_start, breaks_torn, breaks_learning, valid_more, valid_refuted, affordable, affordable_refuted, ends_spent, ends_verified, meets_less}
+use Rattle.sdcl_store.specs.Stores.{Stored, clauses_in}
+use Rattle.sdcl_trail.specs.Levels.{decisions}
+use Rattle.sdcl_outer.specs.Outcome.{Breaks, AreRefuted, IsNewClause, NewSteps}
+use Rattle.sdcl_outer.specs.Telling.{IsTold}
+use Rattle.sdcl_outer.specs.Searching.{Begins, Joins, AreValues}
+use Rattle.sdcl_outer.proofs.Assigned.{values_total, values_meet}
+use Rattle.sdcl_outer.proofs.Refuted.{clause_new, some_decision, no_decision, decisions_refuted}
+use Rattle.sdcl_outer.proofs.Learning.{Learned, steps_of, steps_more, learned_none, learned_more, told_start, told_on, new_start, new_more, on_err, breaks_at_start, breaks_stopped, breaks_torn, breaks_learning, valid_more, valid_refuted, affordable, affordable_refuted, ends_spent, ends_verified, meets_less}
 use Rattle.sdcl_outer.proofs.solving.solve.Goals as goal
 
 pub learning-init : goal.learning-init
 learning-init g c =
-    let fresh : c.in_ok-trail.trail ≡ record { variables = c.args.variables; entries = [] } = search rules in
+    let begins : Begins c.args.store c.args.variables c.in_ok-search.search = search rules in
+    let f = clauses_in c.args.store in
     record {
-      ready = search rules;
-      follows = search rules;
+      ready = c.requires.ready;
+      follows = g.met.S.ProofOut.follows_itself c.args.sink.now;
       later = omega arith;
       aside = refl;
-      variables = search rules;
-      within = c.requires.within;
-      counted = omega arith;
+      in_order = begins.ready;
+      variables = begins.variables_is;
+      counted = omega (arith, ap (λ (s : Stored). length s.slots) begins.store_is);
       affordable = omega arith;
-      learned = learned_none c.args.store;
-      told = told_start g.S.ProofOut.tells c.args.sink.now c.args.store;
-      fresh = new_start c.args.variables c.args.store;
-      chosen = subst (λ (t : Levels). Chosen c.args.store t.entries) (sym fresh) tt;
-      justified = subst (λ (t : Levels). Justified c.args.store t.entries) (sym fresh) tt;
+      learned = subst (λ (s : Stored). Learned f (clauses_in s) 0) (sym begins.store_is) (learned_none f);
+      told = subst (λ (s : Stored). IsTold g.S.ProofOut.tells c.args.sink.now c.args.sink.now (steps_of f (clauses_in s)) None) (sym begins.store_is) (told_start g.S.ProofOut.tells c.args.sink.now f);
+      fresh = subst (λ (s : Stored). NewSteps c.args.variables f (steps_of f (clauses_in s))) (sym begins.store_is) (new_start c.args.variables f);
     }
 
 pub learning-preserved : goal.learning-preserved
 learning-preserved g c =
-    let added : c.learn.new.store ≡ c.learning.store ++ complements (decisions c.descend.new.trail.entries) ∷ [] = c.in_ok-learn.ensures.added in
-    let variables : c.descend.new.trail.variables ≡ c.args.variables = c.descend.ensures.variables ∙ c.learning.invariant.variables in
-    let some : decisions c.descend.new.trail.entries ≡ [] → ⊥ = λ e. true≢false (sym (c.is_at_root.ensures.value.1 e) ∙ c.if-is_at_root.false) in
-    let fresh : IsNewClause c.args.variables c.learning.store (complements (decisions c.descend.new.trail.entries)) =
-    learned_new c.args.variables c.learning.store c.descend.new.trail.entries c.descend.ensures.chosen c.is_at_root.ensures.sound.apart
-    (subst (λ n. Within n c.descend.new.trail.entries) variables c.is_at_root.ensures.sound.within) some in
+    let u = c.descend.new.self in
+    let d = c.descend.ensures in
+    let k = c.learning.learned in
+    let f = clauses_in c.args.store in
+    let old = clauses_in u.store in
+    let ds = decisions u.trail in
+    let inv = c.learning.invariant in
+    let joins : Joins u c.learn.new.search = c.in_ok-learn.ensures.joins in
+    let some : 0 < length u.trail.starts = omega (arith, c.if-level-eq0.false, c.level.ensures.value) in
+    let variables : u.trail.variables ≡ c.args.variables = d.ready.trail_same ∙ d.variables_same ∙ inv.variables in
+    let refuted : refutes old ds ≡ true = d.conflict c.learning-test.true in
+    let new : IsNewClause c.args.variables old (complements ds) = subst (λ n. IsNewClause n old (complements ds)) variables (clause_new u.store.slots u.trail d.ready.fits c.level.ensures.sound some) in
+    let learned : Learned f old k = subst (λ (s : Stored). Learned f (clauses_in s) k) (sym d.store_same) inv.learned in
+    let told : IsTold g.S.ProofOut.tells c.args.sink.now c.learning.sink (steps_of f old) None = subst (λ (s : Stored). IsTold g.S.ProofOut.tells c.args.sink.now c.learning.sink (steps_of f (clauses_in s)) None) (sym d.store_same) inv.told in
+    let fresh : NewSteps c.args.variables f (steps_of f old) = subst (λ (s : Stored). NewSteps c.args.variables f (steps_of f (clauses_in s))) (sym d.store_same) inv.fresh in
     record {
-      ready = search rules;
-      follows = search rules;
-      later = search rules;
-      aside = search rules;
-      variables = ap (λ t. t.variables) c.undo_level.ensures ∙ variables;
-      within = subst (λ n. WithinVariables n c.learn.new.store) variables c.in_ok-learn.ensures.within;
-      counted = omega (arith, ap length added, length-append c.learning.store (complements (decisions c.descend.new.trail.entries) ∷ []), c.learning.invariant.counted);
-      affordable = omega (arith, c.learning.invariant.affordable);
-      learned =
-          rw added (learned_more c.args.store c.learning.store c.learning.learned (decisions c.descend.new.trail.entries) c.learning.invariant.learned
-          (c.learning-test.ensures.conflict refl) some);
-      told =
-          rw (added, steps_more c.args.store c.learning.store c.learning.learned (complements (decisions c.descend.new.trail.entries)) c.learning.invariant.learned)
-          (told_on g.S.ProofOut.tells c.args.sink.now c.learning.sink c.learn.new.sink (steps_of c.args.store c.learning.store) (Add (complements (decisions c.descend.new.trail.entries)) ∷ []) None
-          c.learning.invariant.told c.in_ok-learn.ensures.told);
-      fresh =
-          rw (added, steps_more c.args.store c.learning.store c.learning.learned (complements (decisions c.descend.new.trail.entries)) c.learning.invariant.learned)
-          (new_more c.args.variables c.args.store c.learning.store c.learning.learned (Add (complements (decisions c.descend.new.trail.entries))) c.learning.invariant.learned
-          c.learning.invariant.fresh fresh);
-      chosen = rw (c.undo_level.ensures, added) (learned_chosen c.learning.store c.descend.new.trail.entries c.descend.ensures.chosen);
-      justified =
-          rw (c.undo_level.ensures, added) (learned_justified c.learning.store (complements (decisions c.descend.new.trail.entries)) c.descend.new.trail.entries c.descend.ensures.justified);
+      ready = c.in_ok-learn.ensures.ready;
+      follows = g.met.S.ProofOut.follows_on c.args.sink.now c.learning.sink c.learn.new.sink inv.follows c.learn.ensures.follows;
+      later = omega (arith, inv.later, c.learn.ensures.later);
+      aside = c.learn.ensures.aside ∙ inv.aside;
+      in_order = joins.ready;
+      variables = joins.variables_same ∙ d.variables_same ∙ inv.variables;
+      counted = omega (arith, joins.slots, ap (λ (s : Stored). length s.slots) d.store_same, inv.counted);
+      affordable = omega (arith, inv.affordable, c.if-learned-options.false);
+      learned = rw joins.clauses (learned_more f old k ds learned refuted (some_decision u.store.slots u.trail d.ready.fits some));
+      told = rw (joins.clauses, steps_more f old k (complements ds) learned)
+          (told_on g.S.ProofOut.tells c.args.sink.now c.learning.sink c.learn.new.sink (steps_of f old) (Add (complements ds) ∷ []) None told c.in_ok-learn.ensures.told);
+      fresh = rw (joins.clauses, steps_more f old k (complements ds) learned) (new_more c.args.variables f old k (Add (complements ds)) learned fresh new);
     }
 
-pub returns-in_err-trail-clause-err : goal.returns-in_err-trail-clause-err
-returns-in_err-trail-clause-err g c =
-    on_err c.from_residual.result (Breaks g.S.ProofOut.tells c.args.sink.now c.args.sink.now c.args.store c.args.variables c.args.options.now.budget)
-    (breaks_at_start g.S.ProofOut.tells c.args.sink.now c.args.store c.args.variables c.args.options.now.budget)
+pub returns-in_err-search-clause-err : goal.returns-in_err-search-clause-err
+returns-in_err-search-clause-err g c =
+    on_err c.from_residual.result (Breaks g.S.ProofOut.tells c.args.sink.now c.args.sink.now (clauses_in c.args.store) c.args.variables c.args.options.now.budget)
+    (breaks_at_start g.S.ProofOut.tells c.args.sink.now (clauses_in c.args.store) c.args.variables c.args.options.now.budget)
+
+pub returns-in_err-add-clause-follows : goal.returns-in_err-add-clause-follows
+returns-in_err-add-clause-follows g c = g.met.S.ProofOut.follows_on c.args.sink.now c.learning.sink c.add.new.self c.learning.invariant.follows c.add.ensures.follows
 
 pub returns-in_err-add-clause-err : goal.returns-in_err-add-clause-err
 returns-in_err-add-clause-err g c =
-    let refuted : refutes c.learning.store [] ≡ true = subst (λ ds. refutes c.learning.store ds ≡ true) (c.is_at_root.ensures.value.0 c.if-is_at_root.true) (c.learning-test.ensures.conflict refl) in
-    on_err c.from_residual-in_err-add.result (Breaks g.S.ProofOut.tells c.args.sink.now c.add.new.self c.args.store c.args.variables c.args.options.now.budget)
-    (breaks_torn g.S.ProofOut.tells c.args.sink.now c.learning.sink c.add.new.self c.args.store c.learning.store c.args.variables c.learning.learned c.args.options.now.budget (Add [])
-    c.learning.invariant.learned (omega (arith, c.learning.invariant.affordable)) c.learning.invariant.told c.learning.invariant.fresh (valid_refuted c.learning.store [] refuted) tt c.in_err-add.ensures.err)
+    let u = c.descend.new.self in
+    let d = c.descend.ensures in
+    let k = c.learning.learned in
+    let f = clauses_in c.args.store in
+    let old = clauses_in u.store in
+    let inv = c.learning.invariant in
+    let none : length u.trail.starts ≡ 0 = omega (arith, c.if-level-eq0.true, c.level.ensures.value) in
+    let refuted : refutes old [] ≡ true = subst (λ (ds : Clause). refutes old ds ≡ true) (no_decision u.store.slots u.trail d.ready.fits none) (d.conflict c.learning-test.true) in
+    let learned : Learned f old k = subst (λ (s : Stored). Learned f (clauses_in s) k) (sym d.store_same) inv.learned in
+    let told : IsTold g.S.ProofOut.tells c.args.sink.now c.learning.sink (steps_of f old) None = subst (λ (s : Stored). IsTold g.S.ProofOut.tells c.args.sink.now c.learning.sink (steps_of f (clauses_in s)) None) (sym d.store_same) inv.told in
+    let fresh : NewSteps c.args.variables f (steps_of f old) = subst (λ (s : Stored). NewSteps c.args.variables f (steps_of f (clauses_in s))) (sym d.store_same) inv.fresh in
+    on_err c.from_residual-in_err-add.result (Breaks g.S.ProofOut.tells c.args.sink.now c.add.new.self f c.args.variables c.args.options.now.budget)
+    (breaks_torn g.S.ProofOut.tells c.args.sink.now c.learning.sink c.add.new.self f old c.args.variables k c.args.options.now.budget (Add [])
+    learned inv.affordable told fresh (valid_refuted old [] refuted) tt c.in_err-add.ensures.err)
 
-pub returns-in_err-learn-clause-err : goal.returns-in_err-learn-clause-err
-returns-in_err-learn-clause-err g c =
-    let variables : c.descend.new.trail.variables ≡ c.args.variables = c.descend.ensures.variables ∙ c.learning.invariant.variables in
-    let some : decisions c.descend.new.trail.entries ≡ [] → ⊥ = λ e. true≢false (sym (c.is_at_root.ensures.value.1 e) ∙ c.if-is_at_root.false) in
-    let fresh : IsNewClause c.args.variables c.learning.store (complements (decisions c.descend.new.trail.entries)) =
-    learned_new c.args.variables c.learning.store c.descend.new.trail.entries c.descend.ensures.chosen c.is_at_root.ensures.sound.apart
-    (subst (λ n. Within n c.descend.new.trail.entries) variables c.is_at_root.ensures.sound.within) some in
-    on_err c.from_residual-in_err-learn.result (Breaks g.S.ProofOut.tells c.args.sink.now c.learn.new.sink c.args.store c.args.variables c.args.options.now.budget)
-    (breaks_learning g.S.ProofOut.tells c.args.sink.now c.learning.sink c.learn.new.sink c.args.store c.learning.store c.args.variables c.learning.learned c.args.options.now.budget
-    (Add (complements (decisions c.descend.new.trail.entries))) c.learning.invariant.learned (omega (arith, c.learning.invariant.affordable)) c.learning.invariant.told c.learning.invariant.fresh
-    (valid_refuted c.learning.store (decisions c.descend.new.trail.entries) (c.learning-test.ensures.conflict refl)) fresh c.in_err-learn.ensures.torn)
+pub returns-then-level-eq0-clause-follows : goal.returns-then-level-eq0-clause-follows
+returns-then-level-eq0-clause-follows g c = g.met.S.ProofOut.follows_on c.args.sink.now c.learning.sink c.add.new.self c.learning.invariant.follows c.add.ensures.follows
 
-pub returns-then-is_at_root-clause-ok : goal.returns-then-is_at_root-clause-ok
-returns-then-is_at_root-clause-ok g c =
-    let refuted : refutes c.learning.store [] ≡ true = subst (λ ds. refutes c.learning.store ds ≡ true) (c.is_at_root.ensures.value.0 c.if-is_at_root.true) (c.learning-test.ensures.conflict refl) in (
-      steps_of c.args.store c.learning.store ++ Add [] ∷ [],
-      told_on g.S.ProofOut.tells c.args.sink.now c.learning.sink c.add.new.self (steps_of c.args.store c.learning.store) (Add [] ∷ []) None c.learning.invariant.told c.in_ok-add.ensures.ok,
-      valid_more c.args.store c.learning.store c.learning.learned (Add []) c.learning.invariant.learned (valid_refuted c.learning.store [] refuted),
-      (steps_of c.args.store c.learning.store, refl, c.learning.invariant.learned.solid, ends_verified c.args.store c.learning.store c.learning.learned c.learning.invariant.learned refuted),
-      new_more c.args.variables c.args.store c.learning.store c.learning.learned (Add []) c.learning.invariant.learned c.learning.invariant.fresh tt,
-      affordable_refuted c.args.store c.learning.store c.learning.learned c.args.options.now.budget c.learning.invariant.learned (omega (arith, c.learning.invariant.affordable)),
+pub returns-then-level-eq0-clause-ok : goal.returns-then-level-eq0-clause-ok
+returns-then-level-eq0-clause-ok g c =
+    let u = c.descend.new.self in
+    let d = c.descend.ensures in
+    let k = c.learning.learned in
+    let f = clauses_in c.args.store in
+    let old = clauses_in u.store in
+    let inv = c.learning.invariant in
+    let none : length u.trail.starts ≡ 0 = omega (arith, c.if-level-eq0.true, c.level.ensures.value) in
+    let refuted : refutes old [] ≡ true = subst (λ (ds : Clause). refutes old ds ≡ true) (no_decision u.store.slots u.trail d.ready.fits none) (d.conflict c.learning-test.true) in
+    let learned : Learned f old k = subst (λ (s : Stored). Learned f (clauses_in s) k) (sym d.store_same) inv.learned in
+    let told : IsTold g.S.ProofOut.tells c.args.sink.now c.learning.sink (steps_of f old) None = subst (λ (s : Stored). IsTold g.S.ProofOut.tells c.args.sink.now c.learning.sink (steps_of f (clauses_in s)) None) (sym d.store_same) inv.told in
+    let fresh : NewSteps c.args.variables f (steps_of f old) = subst (λ (s : Stored). NewSteps c.args.variables f (steps_of f (clauses_in s))) (sym d.store_same) inv.fresh in (
+      steps_of f old ++ Add [] ∷ [],
+      told_on g.S.ProofOut.tells c.args.sink.now c.learning.sink c.add.new.self (steps_of f old) (Add [] ∷ []) None told c.in_ok-add.ensures.ok,
+      valid_more f old k (Add []) learned (valid_refuted old [] refuted),
+      (steps_of f old, refl, learned.solid, ends_verified f old k learned refuted),
+      new_more c.args.variables f old k (Add []) learned fresh tt,
+      affordable_refuted f old k c.args.options.now.budget learned inv.affordable,
     )
 
 pub returns-then-learned-options-clause-ok : goal.returns-then-learned-options-clause-ok
 returns-then-learned-options-clause-ok g c =
-    let variables : c.descend.new.trail.variables ≡ c.args.variables = c.descend.ensures.variables ∙ c.learning.invariant.variables in
-    let refuted : AreRefuted c.args.variables c.learning.store (decisions c.descend.new.trail.entries) = record {
-      some = λ e. true≢false (sym (c.is_at_root.ensures.value.1 e) ∙ c.if-is_at_root.false);
-      decisions =
-          are_decisions c.args.variables c.learning.store c.descend.new.trail.entries c.descend.ensures.chosen
-          (subst (λ n. Within n c.descend.new.trail.entries) variables c.is_at_root.ensures.sound.within);
-      refuted = c.learning-test.ensures.conflict refl;
-    } in (
-      steps_of c.args.store c.learning.store,
-      c.learning.invariant.told,
-      c.learning.invariant.learned.valid,
-      ends_spent c.args.variables c.args.store c.learning.store c.learning.learned c.args.options.now.budget (decisions c.descend.new.trail.entries)
-          c.learning.invariant.learned (omega arith) refuted,
-      c.learning.invariant.fresh,
-      affordable c.args.store c.learning.store c.learning.learned c.args.options.now.budget c.learning.invariant.learned (omega (arith, c.learning.invariant.affordable)),
+    let u = c.descend.new.self in
+    let d = c.descend.ensures in
+    let k = c.learning.learned in
+    let f = clauses_in c.args.store in
+    let old = clauses_in u.store in
+    let inv = c.learning.invariant in
+    let some : 0 < length u.trail.starts = omega (arith, c.if-level-eq0.false, c.level.ensures.value) in
+    let variables : u.trail.variables ≡ c.args.variables = d.ready.trail_same ∙ d.variables_same ∙ inv.variables in
+    let refuted : AreRefuted c.args.variables old (decisions u.trail) = subst (λ n. AreRefuted n old (decisions u.trail)) variables
+    (decisions_refuted u.store.slots u.trail d.ready.fits c.level.ensures.sound some (d.conflict c.learning-test.true)) in
+    let learned : Learned f old k = subst (λ (s : Stored). Learned f (clauses_in s) k) (sym d.store_same) inv.learned in
+    let told : IsTold g.S.ProofOut.tells c.args.sink.now c.learning.sink (steps_of f old) None = subst (λ (s : Stored). IsTold g.S.ProofOut.tells c.args.sink.now c.learning.sink (steps_of f (clauses_in s)) None) (sym d.store_same) inv.told in
+    let fresh : NewSteps c.args.variables f (steps_of f old) = subst (λ (s : Stored). NewSteps c.args.variables f (steps_of f (clauses_in s))) (sym d.store_same) inv.fresh in (
+      steps_of f old,
+      told,
+      learned.valid,
+      ends_spent c.args.variables f old k c.args.options.now.budget (decisions u.trail) learned (omega (arith, c.if-learned-options.true)) refuted,
+      fresh,
+      affordable f old k c.args.options.now.budget learned inv.affordable,
     )
+
+pub returns-in_err-learn-clause-err : goal.returns-in_err-learn-clause-err
+returns-in_err-learn-clause-err g c =
+    let u = c.descend.new.self in
+    let d = c.descend.ensures in
+    let k = c.learning.learned in
+    let f = clauses_in c.args.store in
+    let old = clauses_in u.store in
+    let ds = decisions u.trail in
+    let inv = c.learning.invariant in
+    let some : 0 < length u.trail.starts = omega (arith, c.if-level-eq0.false, c.level.ensures.value) in
+    let variables : u.trail.variables ≡ c.args.variables = d.ready.trail_same ∙ d.variables_same ∙ inv.variables in
+    let refuted : refutes old ds ≡ true = d.conflict c.learning-test.true in
+    let new : IsNewClause c.args.variables old (complements ds) = subst (λ n. IsNewClause n old (complements ds)) variables (clause_new u.store.slots u.trail d.ready.fits c.level.ensures.sound some) in
+    let learned : Learned f old k = subst (λ (s : Stored). Learned f (clauses_in s) k) (sym d.store_same) inv.learned in
+    let told : IsTold g.S.ProofOut.tells c.args.sink.now c.learning.sink (steps_of f old) None = subst (λ (s : Stored). IsTold g.S.ProofOut.tells c.args.sink.now c.learning.sink (steps_of f (clauses_in s)) None) (sym d.store_same) inv.told in
+    let fresh : NewSteps c.args.variables f (steps_of f old) = subst (λ (s : Stored). NewSteps c.args.variables f (steps_of f (clauses_in s))) (sym d.store_same) inv.fresh in
+    on_err c.from_residual-in_err-learn.result (Breaks g.S.ProofOut.tells c.args.sink.now c.learn.new.sink f c.args.variables c.args.options.now.budget)
+    (breaks_learning g.S.ProofOut.tells c.args.sink.now c.learning.sink c.learn.new.sink f old c.args.variables k c.args.options.now.budget (Add (complements ds))
+    learned (omega (arith, inv.affordable, c.if-learned-options.false)) told fresh (valid_refuted old ds refuted) new c.in_err-learn.ensures.torn)
+
+pub returns-in_err-model-clause-err : goal.returns-in_err-model-clause-err
+returns-in_err-model-clause-err g c =
+    let inv = c.learning.invariant in
+    on_err c.from_residual-in_err-model.result (Breaks g.S.ProofOut.tells c.args.sink.now c.learning.sink (clauses_in c.args.store) c.args.variables c.args.options.now.budget)
+    (breaks_stopped g.S.ProofOut.tells c.args.sink.now c.learning.sink (clauses_in c.args.store) (clauses_in c.learning.search.store) c.args.variables c.learning.learned c.args.options.now.budget
+    inv.learned inv.affordable inv.told inv.fresh)
 
 pub returns-clause-ok : goal.returns-clause-ok
 returns-clause-ok g c =
-    let same : c.descend.new.trail.variables ≡ c.args.variables = c.descend.ensures.variables ∙ c.learning.invariant.variables in
-    let model : IsModel c.descend.new.trail.variables c.learning.store c.descend.new.trail.entries = c.learning-test.ensures.model refl in (
-      steps_of c.args.store c.learning.store,
-      c.learning.invariant.told,
-      c.learning.invariant.learned.valid,
+    let u = c.descend.new.self in
+    let d = c.descend.ensures in
+    let k = c.learning.learned in
+    let f = clauses_in c.args.store in
+    let old = clauses_in u.store in
+    let inv = c.learning.invariant in
+    let variables : u.variables ≡ c.args.variables = d.variables_same ∙ inv.variables in
+    let made : AreValues c.args.variables u.trail.lits c.in_ok-model.model = search rules in
+    let values : AreValues u.variables u.trail.lits c.in_ok-model.model = subst (λ n. AreValues n u.trail.lits c.in_ok-model.model) (sym variables) made in
+    let learned : Learned f old k = subst (λ (s : Stored). Learned f (clauses_in s) k) (sym d.store_same) inv.learned in
+    let told : IsTold g.S.ProofOut.tells c.args.sink.now c.learning.sink (steps_of f old) None = subst (λ (s : Stored). IsTold g.S.ProofOut.tells c.args.sink.now c.learning.sink (steps_of f (clauses_in s)) None) (sym d.store_same) inv.told in
+    let fresh : NewSteps c.args.variables f (steps_of f old) = subst (λ (s : Stored). NewSteps c.args.variables f (steps_of f (clauses_in s))) (sym d.store_same) inv.fresh in (
+      steps_of f old,
+      told,
+      learned.valid,
       (
-        (λ x low high. subst IsSome (sym (c.into_values.ensures.values x)) (model.total x low (omega (arith, high, same)))),
-        meets_less (truth_of c.into_values.result) c.args.store c.learning.store c.learning.learned c.learning.invariant.learned
-            (meets_same (λ x. unwrap_or (value_in c.descend.new.trail.entries x) false) (truth_of c.into_values.result) (λ x. ap (λ v. unwrap_or v false) (sym (c.into_values.ensures.values x)))
-            c.learning.store model.meets),
-        omega (arith, c.into_values.ensures.width, same),
+        (λ x low high. values_total u.variables u.trail.lits c.in_ok-model.model values (d.all c.learning-test.false) x low (omega (arith, high, variables))),
+        meets_less (truth_of c.in_ok-model.model) f old k learned
+            (values_meet u.variables u.store.slots u.trail c.in_ok-model.model (d.complete c.learning-test.false) d.ready.within values (d.all c.learning-test.false)),
+        made.width,
       ),
-      c.learning.invariant.fresh,
-      affordable c.args.store c.learning.store c.learning.learned c.args.options.now.budget c.learning.invariant.learned (omega (arith, c.learning.invariant.affordable)),
+      fresh,
+      affordable f old k c.args.options.now.budget learned inv.affordable,
     )

@@ -1,6 +1,6 @@
 use Rattle.std.proofs.Common.{◌≡◌, ◌≤◌, ◌+◌, ◌-◌, length, None}
-use Rattle.sdcl_outer.specs.Scanning.{Justified, Chosen}
-use Rattle.sdcl_base.specs.Sets.{WithinVariables}
+use Rattle.sdcl_store.specs.Stores.{clauses_in}
+use Rattle.sdcl_outer.specs.Searching.{IsInOrder}
 use Rattle.sdcl_outer.specs.Outcome.{NewSteps}
 use Rattle.sdcl_outer.specs.Telling.{IsTold}
 use Rattle.sdcl_outer.proofs.Learning.{Learned, steps_of}
@@ -12,15 +12,13 @@ invariant-learning g l = record {
   follows : g.S.ProofOut.follows l.fn.sink l.sink;
   later : g.S.ProofOut.faults l.fn.sink ≤ g.S.ProofOut.faults l.sink;
   aside : g.S.ProofOut.aside l.sink ≡ g.S.ProofOut.aside l.fn.sink;
-  variables : l.trail.variables ≡ l.fn.variables;
-  within : WithinVariables l.fn.variables l.store;
-  counted : length l.store ≡ length l.fn.store + l.learned;
+  in_order : IsInOrder l.search;
+  variables : l.search.variables ≡ l.fn.variables;
+  counted : length l.search.store.slots ≡ length l.fn.store.slots + l.learned;
   affordable : l.learned ≤ l.options.budget;
-  learned : Learned l.fn.store l.store l.learned;
-  told : IsTold g.S.ProofOut.tells l.fn.sink l.sink (steps_of l.fn.store l.store) None;
-  chosen : Chosen l.store l.trail.entries;
-  fresh : NewSteps l.fn.variables l.fn.store (steps_of l.fn.store l.store);
-  justified : Justified l.store l.trail.entries;
+  learned : Learned (clauses_in l.fn.store) (clauses_in l.search.store) l.learned;
+  told : IsTold g.S.ProofOut.tells l.fn.sink l.sink (steps_of (clauses_in l.fn.store) (clauses_in l.search.store)) None;
+  fresh : NewSteps l.fn.variables (clauses_in l.fn.store) (steps_of (clauses_in l.fn.store) (clauses_in l.search.store));
 }
 
 abbrev pub decreases-learning : goal.decreases-learning
