@@ -1,6 +1,7 @@
 -- What the phases of `check` together did.
 use Rattle.std.proofs.Common.{◌≡◌, ℕ, List, Result, Ok, refl, sym, subst}
 use Rattle.std.specs.Prelude.{IsSome}
+use Rattle.sdcl_store.specs.Stores.{clauses_in}
 use Rattle.sdcl_base.specs.Literal.{Clause}
 use Rattle.sdcl_io.specs.declared.world.InRole.TheVariants as input
 use Rattle.sdcl_io.specs.declared.world.OutRole.TheVariants as output
@@ -39,22 +40,22 @@ can_print (found.NotVerified k) = tt
 -- ---- the whole command
 
 pub judged : {names : Names} {loaded : Loaded} {v : Found} {s0 s1 s2 : Seen} {q : Result Loaded Refusal} {u : Result Found Refusal} → IsFresh s0 → q ≡ Ok loaded → u ≡ Ok v → Loads names.formula s0 s1 q
-    → Judges names.proof loaded.store s1 s2 u → Performs (checking names) s0 s2 (Ok (verdict_of_checker v))
+    → Judges names.proof (clauses_in loaded.store) s1 s2 u → Performs (checking names) s0 s2 (Ok (verdict_of_checker v))
 unfolding judged_as
 judged {names} {loaded} {v} {s0} {s1} {s2} {q} {u} fresh d b h k =
     let read : Loads names.formula s0 s1 (Ok loaded) = subst (Loads names.formula s0 s1) d h in
-    let judges : Judges names.proof loaded.store s1 s2 (Ok v) = subst (Judges names.proof loaded.store s1 s2) b k in
+    let judges : Judges names.proof (clauses_in loaded.store) s1 s2 (Ok v) = subst (Judges names.proof (clauses_in loaded.store) s1 s2) b k in
     let both : OnlyReads s0 s2 = reads_on (one_read read.only) judges.only in
     record {
       ok = (
         record {
           found = v;
           is = refl;
-          judged = judged_as names loaded.variables loaded.store s0 s1 (judgement_in v) read.only read.ok judges.ok.judged;
+          judged = judged_as names loaded.variables (clauses_in loaded.store) s0 s1 (judgement_in v) read.only read.ok judges.ok.judged;
           steps = judges.ok.steps;
           valid = judges.ok.valid;
           bears = judges.ok.bears;
-          verified = verified names loaded.store s0 s1 s2 v read.only judges.ok;
+          verified = verified names (clauses_in loaded.store) s0 s1 s2 v read.only judges.ok;
           read_out = subst (IsReadOut (s0.file names.formula)) (sym (judges.only.inputs input.Formula formula_not_proof)) read.read_out;
           made_nothing = read_nothing_made fresh both;
         },

@@ -1,5 +1,6 @@
 -- What the phases of `solve` together did.
 use Rattle.std.proofs.Common.{◌≡◌, ◌∙◌, inl, ℕ, List, Some, None, Result, Ok, IsTrue, refl, sym, subst}
+use Rattle.sdcl_store.specs.Stores.{clauses_in}
 use Rattle.sdcl_base.specs.Literal.{Clause}
 use Rattle.sdcl_io.specs.declared.world.InRole.TheVariants as input
 use Rattle.sdcl_io.specs.declared.world.OutRole.TheVariants as output
@@ -75,22 +76,22 @@ can_print n f s answer.Spent h name t l = tt
 -- ---- the whole command
 
 phases : {names : Names} {loaded : Loaded} {s0 s1 s2 : Seen} {q : Result Loaded Refusal} {u : Result Answer Refusal} → IsFresh s0 → (names.formula ≡ names.proof → ⊥) → q ≡ Ok loaded
-    → Loads names.formula s0 s1 q → Proves names.proof loaded.variables BUDGET loaded.store s1 s2 u → Phases names loaded.variables loaded.store s0 s1 s2
+    → Loads names.formula s0 s1 q → Proves names.proof loaded.variables BUDGET (clauses_in loaded.store) s1 s2 u → Phases names loaded.variables (clauses_in loaded.store) s0 s1 s2
 phases {names} {loaded} {s0} {s1} {s2} fresh differ d h k =
     let read : Loads names.formula s0 s1 (Ok loaded) = subst (Loads names.formula s0 s1) d h in
     record { fresh = fresh; differ = differ; read = read.only; read_out = read.read_out; stands = read.stands; loaded = read.ok; only = k.only }
 
 pub solved : {names : Names} {loaded : Loaded} {a : Answer} {s0 s1 s2 : Seen} {q : Result Loaded Refusal} {u : Result Answer Refusal} → IsFresh s0 → (names.formula ≡ names.proof → ⊥) → q ≡ Ok loaded
-    → u ≡ Ok a → Loads names.formula s0 s1 q → Proves names.proof loaded.variables BUDGET loaded.store s1 s2 u → Performs (solving names) s0 s2 (Ok (verdict_of_answer loaded.variables a))
+    → u ≡ Ok a → Loads names.formula s0 s1 q → Proves names.proof loaded.variables BUDGET (clauses_in loaded.store) s1 s2 u → Performs (solving names) s0 s2 (Ok (verdict_of_answer loaded.variables a))
 solved {names} {loaded} {a} {s0} {s1} {s2} {q} {u} fresh differ d b h k =
-    let p : Phases names loaded.variables loaded.store s0 s1 s2 = phases fresh differ d h k in
-    let proved : Proves names.proof loaded.variables BUDGET loaded.store s1 s2 (Ok a) = subst (Proves names.proof loaded.variables BUDGET loaded.store s1 s2) b k in
+    let p : Phases names loaded.variables (clauses_in loaded.store) s0 s1 s2 = phases fresh differ d h k in
+    let proved : Proves names.proof loaded.variables BUDGET (clauses_in loaded.store) s1 s2 (Ok a) = subst (Proves names.proof loaded.variables BUDGET (clauses_in loaded.store) s1 s2) b k in
     record {
-      ok = (solves names loaded.variables loaded.store a s0 s1 s2 p proved.ok.0 proved.ok.1, can_print loaded.variables loaded.store s2 a proved.ok.1 names.formula s0 p.loaded);
+      ok = (solves names loaded.variables (clauses_in loaded.store) a s0 s1 s2 p proved.ok.0 proved.ok.1, can_print loaded.variables (clauses_in loaded.store) s2 a proved.ok.1 names.formula s0 p.loaded);
       err = tt;
-      out = out_same names loaded.variables loaded.store s0 s1 s2 p;
+      out = out_same names loaded.variables (clauses_in loaded.store) s0 s1 s2 p;
       silent = p.only.outputs output.Err err_not_proof ∙ p.read.outputs output.Err;
       there = (p.only.there output.Out out_not_proof ∙ p.read.there output.Out, p.only.there output.Err err_not_proof ∙ p.read.there output.Err);
-      keeps = keeps names loaded.variables loaded.store s0 s1 s2 p;
+      keeps = keeps names loaded.variables (clauses_in loaded.store) s0 s1 s2 p;
       calm = λ calm told. calm_after (h.calm told.0) p.read.later k.calm calm;
     }

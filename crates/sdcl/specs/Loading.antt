@@ -5,6 +5,7 @@ use Rattle.sdcl_base.specs.Sets.{WithinVariables}
 use Rattle.sdcl_base.specs.declared.lit.TheConstants.{MAX_VARIABLE}
 use Rattle.sdcl_io.specs.declared.world.InRole.TheVariants.{Formula}
 use Rattle.sdcl_io.specs.World.{Seen, OnlyRead, Calm}
+use Rattle.sdcl_store.specs.Stores.{clauses_in, IsWhole}
 use Rattle.sdcl_dimacs.specs.FormulaText.{FormulaText, Accepted, FormulaFault, FormulaOver, formula_text}
 use Rattle.sdcl_dimacs.specs.Faults.{kind_code}
 use Rattle.sdcl_dimacs.specs.Taking.{TakenToEnd}
@@ -81,7 +82,8 @@ pub record IsLoaded (name : List ℕ) (s : Seen) (variables : ℕ) (f : List Cla
 pub record Loads (name : List ℕ) (s t : Seen) (result : Result Loaded Refusal) : Type 0 where
   pub only : OnlyRead Formula s t
   pub calm : IsSome (s.file name) → Calm s t
-  pub ok : IfOk result (λ loaded. IsLoaded name s loaded.variables loaded.store)
+  pub ok : IfOk result (λ loaded. IsLoaded name s loaded.variables (clauses_in loaded.store))
+  pub whole : IfOk result (λ loaded. IsWhole loaded.store)
   pub read_out : OnOk result (IsReadOut (s.file name) (t.left Formula))
   pub stands : OnOk result (IsTrue s.tells → t.stands Formula ≡ Some name)
   pub err : IfErr result (λ e. InputRefuses (formula_in name) s t e)

@@ -1,12 +1,13 @@
 //! The judging of a proof.
-ghost use Rattle.std.specs.Prelude.{◌≡◌, ◌≤◌, true, IsTrue, IfOk, IsErrOf, None};
+ghost use Rattle.std.specs.Prelude.{◌≡◌, ◌≤◌, ◌<◌, true, IsTrue, IfOk, OnOk, IsErrOf, None, length};
 ghost use Rattle.sdcl_io.specs.declared.world.InRole.TheVariants as input;
 ghost use Rattle.sdcl_io.specs.World.{Rose, OnlyRead, Calm};
 ghost use Rattle.sdcl_io.specs.Readers.{reading};
 ghost use Rattle.sdcl_proof.specs.Stepping.{stepping, text_in, left_in};
 ghost use Rattle.sdcl_base.specs.Sets.{WithinVariables};
 ghost use Rattle.sdcl_base.specs.declared.lit.TheConstants.{MAX_VARIABLE};
-ghost use Rattle.sdcl.specs.Judging.{Judges, JudgesText, refusal_of};
+ghost use Rattle.sdcl_store.specs.Stores.{clauses_in};
+ghost use Rattle.sdcl.specs.Judging.{Copies, Judges, JudgesText, refusal_of};
 
 use crate::loading::Loaded;
 use crate::refusal::{Place, Refusal, Trouble, blame};
@@ -15,6 +16,7 @@ use sdcl_io::{InRole, Reader, World};
 use sdcl_prcheck::{Verdict, check_pr};
 use sdcl_proof::{Dialect, ProofError, StepReader};
 use sdcl_rup::Database;
+use sdcl_store::{Clauses, Store};
 use std::alloc::Global;
 
 /// The greatest number of bytes of a proof's text.
@@ -28,8 +30,8 @@ pub fn judge<W: World>(
     loaded: Loaded,
 ) -> Result<Verdict, Refusal>
     requires few { loaded.variables ≤ MAX_VARIABLE }
-    requires within { WithinVariables loaded.variables loaded.store }
-    ensures judges { Judges name.now loaded.store (W.seen world.old) (W.seen world.new) result }
+    requires within { WithinVariables loaded.variables (clauses_in loaded.store) }
+    ensures judges { Judges name.now (clauses_in loaded.store) (W.seen world.old) (W.seen world.new) result }
     ensures follows { W.follows world.old world.new }
 {
     if let Err(failed) = world.open_input(InRole::Proof, name) {
@@ -47,16 +49,29 @@ pub fn judge<W: World>(
 // The clauses of the formula, for a checker.
 fn database_of(alloc: Global, loaded: Loaded) -> Result<Database, NoMemory>
     requires few { loaded.variables ≤ MAX_VARIABLE }
-    requires within { WithinVariables loaded.variables loaded.store }
-    ensures { IfOk result (λ database. database.clauses ≡ loaded.store) }
+    requires within { WithinVariables loaded.variables (clauses_in loaded.store) }
+    ensures { IfOk result (λ database. database.clauses ≡ clauses_in loaded.store) }
 {
     let mut database = Database::new(alloc)?;
     database.cover(loaded.variables)?;
-    // the first `id` clauses are copied, and their variables covered
+    // the clauses below `id` are copied, and their variables covered
     for id in 0..loaded.store.slots() {
-        database.add(loaded.store.literals(ClauseId(id)))?;
+        copy(&mut database, &loaded.store, ClauseId(id))?;
     }
     Ok(database)
+}
+
+// Adds the id's clause, if there is one.
+fn copy(database: &mut Database, store: &Store, id: ClauseId) -> Result<(), NoMemory>
+    requires within { WithinVariables database.old.covered (clauses_in store.now) }
+    requires there { id.0 < length store.now.slots }
+    ensures { OnOk result (Copies store.now.slots database.old database.new id.0) }
+{
+    if store.alive(id) {
+        database.add(store.literals(id))
+    } else {
+        Ok(())
+    }
 }
 
 // Lends the world to a reader of the open proof.

@@ -1,17 +1,18 @@
 //! The reading of the formula.
-ghost use Rattle.std.specs.Prelude.{◌≡◌, IsTrue, OnOk, IfOk, IfSome, IsErrOf, []};
+ghost use Rattle.std.specs.Prelude.{◌≡◌, IsTrue, OnOk, IfOk, IfSome, IsErrOf};
 ghost use Rattle.sdcl_io.specs.declared.world.InRole.TheVariants.{Formula};
 ghost use Rattle.sdcl_io.specs.World.{Rose, OnlyRead, Calm};
 ghost use Rattle.sdcl_dimacs.specs.FormulaText.{formula_text};
+ghost use Rattle.sdcl_store.specs.Stores.{fresh, clauses_in, IsWhole};
 ghost use Rattle.sdcl_dimacs.specs.Within.{IsFormula};
 ghost use Rattle.sdcl_dimacs.specs.Answers.{Answers};
 ghost use Rattle.sdcl.specs.declared.loading.TheConstants.{FORMULA_LIMIT};
 ghost use Rattle.sdcl.specs.Loading.{IsReadOut, Loads, refusal_for};
 
 use crate::refusal::{Place, Refusal, Trouble, blame};
-use sdcl_base::Store;
 use sdcl_dimacs::{FormulaError, Header, read_formula};
 use sdcl_io::{InRole, Reader, World};
+use sdcl_store::Store;
 use std::alloc::Global;
 
 /// The greatest number of bytes of a formula's text.
@@ -45,11 +46,12 @@ pub fn load<W: World>(alloc: Global, world: &mut W, name: &str) -> Result<Loaded
 // Lends the world to a reader of the open formula.
 fn read<W: World>(alloc: Global, world: &mut W, store: &mut Store) -> Result<Header, FormulaError>
     requires open { IsTrue ((W.seen world.old).is_open Formula) }
-    requires empty { store.old ≡ [] }
+    requires empty { store.old ≡ fresh }
     ensures only { OnlyRead Formula (W.seen world.old) (W.seen world.new) }
     ensures calm { Calm (W.seen world.old) (W.seen world.new) }
-    ensures within { IfOk result (λ h. IsFormula h store.new) }
-    ensures text { IfSome ((W.seen world.old).left Formula) (λ text. Answers result store.new (formula_text FORMULA_LIMIT text)) }
+    ensures within { IfOk result (λ h. IsFormula h (clauses_in store.new)) }
+    ensures text { IfSome ((W.seen world.old).left Formula) (λ text. Answers result (clauses_in store.new) (formula_text FORMULA_LIMIT text)) }
+    ensures whole { IsWhole store.new }
     ensures read_out { OnOk result (IsReadOut ((W.seen world.old).left Formula) ((W.seen world.new).left Formula)) }
     ensures stands { (W.seen world.new).stands Formula ≡ (W.seen world.old).stands Formula }
     ensures fault { IsErrOf result FormulaError.ReadFault → Rose ((W.seen world.old).read_faults Formula) ((W.seen world.new).read_faults Formula) }
