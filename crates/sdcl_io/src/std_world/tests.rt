@@ -1,4 +1,7 @@
 //! Files and streams of a runtime whose writes take three bytes at most, over real files.
+ghost use Rattle.std.specs.Prelude.{◌≡◌};
+ghost use Rattle.sdcl_io.specs.declared.world.OutRole.TheVariants.{Out, Err};
+
 use super::*;
 use crate::writing::write_all;
 use std::alloc::Allocator;
@@ -159,16 +162,26 @@ fn held(rt: &HostRuntime, name: &str, bytes: &[u8]) -> io::Result<bool> {
     Ok(text.as_slice() == bytes)
 }
 
+// Makes a file of the bytes, and answers how many its first write took.
+fn put<W: World>(world: &mut W, role: OutRole, name: &str, bytes: &[u8]) -> Result<usize, Failed>
+    requires { (role ≡ Out → ⊥) × (role ≡ Err → ⊥) }
+{
+    world.create_output(role, name)?;
+    let count = world.write(role, bytes)?;
+    write_all(world, role, &bytes[count..])?;
+    Ok(count)
+}
+
 #[test]
 fn the_rest_of_a_short_write_is_written(rt: HostRuntime) -> Result<(), Fail> {
     let mut world = StdWorld::new(ShortRuntime { rt });
-    world.create_output(OutRole::Proof, "told.proof")?;
-    world.create_output(OutRole::Journal, "told.journal")?;
-    assert_eq!(rt; world.write(OutRole::Proof, b"1 -2 0\n"), Ok(3));
-    assert_eq!(rt; write_all(&mut world, OutRole::Proof, b"2 0\n"), Ok(()));
     assert_eq!(rt;
-        write_all(&mut world, OutRole::Journal, b"a journal"),
-        Ok(())
+        put(&mut world, OutRole::Proof, "told.proof", b"1 -2 0\n"),
+        Ok(3)
+    );
+    assert_eq!(rt;
+        put(&mut world, OutRole::Journal, "told.journal", b"a journal"),
+        Ok(3)
     );
     assert_eq!(rt; world.write(OutRole::Out, b"v 1"), Ok(3));
     assert_eq!(rt; write_all(&mut world, OutRole::Out, b" 2 -3 0\n"), Ok(()));
