@@ -49,10 +49,13 @@ fn read<W: World>(alloc: Global, world: &mut W, store: &mut Store) -> Result<Hea
     ensures only { OnlyRead Formula (W.seen world.old) (W.seen world.new) }
     ensures calm { Calm (W.seen world.old) (W.seen world.new) }
     ensures within { IfOk result (λ h. IsFormula h store.new) }
-    ensures text { IfSome ((W.seen world.old).left Formula) (λ text. Answers result store.new (formula_text FORMULA_LIMIT text)) }
-    ensures read_out { OnOk result (IsReadOut ((W.seen world.old).left Formula) ((W.seen world.new).left Formula)) }
+    ensures text { IfSome ((W.seen world.old).left Formula)
+        (λ text. Answers result store.new (formula_text FORMULA_LIMIT text)) }
+    ensures read_out { OnOk result
+        (IsReadOut ((W.seen world.old).left Formula) ((W.seen world.new).left Formula)) }
     ensures stands { (W.seen world.new).stands Formula ≡ (W.seen world.old).stands Formula }
-    ensures fault { IsErrOf result FormulaError.ReadFault → Rose ((W.seen world.old).read_faults Formula) ((W.seen world.new).read_faults Formula) }
+    ensures fault { IsErrOf result FormulaError.ReadFault
+        → Rose ((W.seen world.old).read_faults Formula) ((W.seen world.new).read_faults Formula) }
     ensures follows { W.follows world.old world.new }
 {
     let mut reader = Reader::new(world, InRole::Formula, FORMULA_LIMIT);
