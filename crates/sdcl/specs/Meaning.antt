@@ -162,8 +162,8 @@ pub record HasRefusal (m : Meaning) (s t : Seen) (result : Status) : Type 0 wher
   pub refused : Refused m s t refusal
   pub says : Says refusal s t result
 
-abbrev pub Ends : Meaning → Seen → Seen → Status → Type 0
-Ends m s t result = HasVerdict m s t result ⊎ HasRefusal m s t result
+abbrev pub RunEnds : Meaning → Seen → Seen → Status → Type 0
+RunEnds m s t result = HasVerdict m s t result ⊎ HasRefusal m s t result
 
 -- ---- a run of which nothing failed
 

@@ -6,7 +6,7 @@ ghost use Rattle.sdcl_dimacs.specs.FormulaText.{formula_text};
 ghost use Rattle.sdcl_dimacs.specs.Within.{IsFormula};
 ghost use Rattle.sdcl_dimacs.specs.Answers.{Answers};
 ghost use Rattle.sdcl.specs.declared.loading.TheConstants.{FORMULA_LIMIT};
-ghost use Rattle.sdcl.specs.Loading.{IsReadOut, Loads, refusal_for};
+ghost use Rattle.sdcl.specs.Loading.{FormulaReadOut, Loads, refusal_for};
 
 use crate::refusal::{Place, Refusal, Trouble, blame};
 use sdcl_base::Store;
@@ -52,7 +52,7 @@ fn read<W: World>(alloc: Global, world: &mut W, store: &mut Store) -> Result<Hea
     ensures text { IfSome ((W.seen world.old).left Formula)
         (λ text. Answers result store.new (formula_text FORMULA_LIMIT text)) }
     ensures read_out { OnOk result
-        (IsReadOut ((W.seen world.old).left Formula) ((W.seen world.new).left Formula)) }
+        (FormulaReadOut ((W.seen world.old).left Formula) ((W.seen world.new).left Formula)) }
     ensures stands { (W.seen world.new).stands Formula ≡ (W.seen world.old).stands Formula }
     ensures fault { IsErrOf result FormulaError.ReadFault
         → Rose ((W.seen world.old).read_faults Formula) ((W.seen world.new).read_faults Formula) }

@@ -5,7 +5,7 @@ ghost use Rattle.sdcl_io.specs.World.{Rose};
 ghost use Rattle.sdcl_proof.specs.Files.{Onward, HoldsSteps};
 ghost use Rattle.sdcl_base.specs.Sets.{WithinVariables};
 ghost use Rattle.sdcl_base.specs.declared.lit.TheConstants.{MAX_VARIABLE};
-ghost use Rattle.sdcl.specs.Proving.{Proves, Finds, WritesPart};
+ghost use Rattle.sdcl.specs.Proving.{Proves, FindsAnswer, WritesPart};
 
 use crate::loading::Loaded;
 use crate::refusal::{Place, Refusal, Trouble, blame};
@@ -53,7 +53,7 @@ fn solve_into_file<W: World>(
     requires room { length loaded.store + options.now.budget < 4294967294 }
     ensures onward { Onward Proof (W.seen world.old) (W.seen world.new) }
     ensures ok { IfOk result
-        (λ a. Finds loaded.variables options.now.budget loaded.store (W.seen world.new) a) }
+        (λ a. FindsAnswer loaded.variables options.now.budget loaded.store (W.seen world.new) a) }
     ensures err { OnErr result
         (WritesPart loaded.variables options.now.budget loaded.store (W.seen world.new)) }
     ensures fault { IsErrOf result SolveError.WriteFault

@@ -2,7 +2,7 @@
 ghost use Rattle.std.specs.Prelude.{◌≡◌, Some};
 ghost use Rattle.sdcl.specs.Commands.{plan_in, AreApart};
 ghost use Rattle.sdcl.specs.Starting.{IsFresh};
-ghost use Rattle.sdcl.specs.Meaning.{Performs, Ends, Completes, KeepsRest, StaysCalm};
+ghost use Rattle.sdcl.specs.Meaning.{Performs, RunEnds, Completes, KeepsRest, StaysCalm};
 ghost use Rattle.sdcl.specs.Running.{meant, meaning_of};
 
 use crate::checking::check;
@@ -19,7 +19,7 @@ use std::alloc::Global;
 /// line's words without the program's name.
 pub fn run<W: World>(alloc: Global, world: &mut W, words: &[String]) -> Status
     requires { IsFresh (W.seen world.old) }
-    ensures ends { Ends (meant words.now) (W.seen world.old) (W.seen world.new) result }
+    ensures ends { RunEnds (meant words.now) (W.seen world.old) (W.seen world.new) result }
     ensures completes { Completes (meant words.now) (W.seen world.old) (W.seen world.new) result }
     ensures keeps { KeepsRest (meant words.now) (W.seen world.old) (W.seen world.new) }
     ensures calm { StaysCalm (meant words.now) (W.seen world.old) (W.seen world.new) }
