@@ -13,7 +13,7 @@ use Rattle.sdcl.specs.declared.loading.Loaded.{Loaded}
 use Rattle.sdcl.specs.declared.verdict.Verdict.TheVariants as verdict
 use Rattle.sdcl.specs.declared.refusal.Refusal.{Refusal}
 use Rattle.sdcl.specs.Commands.{Names}
-use Rattle.sdcl.specs.Loading.{Loads, IsLoaded, IsReadOut}
+use Rattle.sdcl.specs.Loading.{Loads, IsLoaded, FormulaReadOut}
 use Rattle.sdcl.specs.Judging.{Judges, Judged, JudgedAs, IsReadTo, judgement_in}
 use Rattle.sdcl.specs.Verdicts.{CanPrint}
 use Rattle.sdcl.specs.Starting.{IsFresh}
@@ -56,7 +56,7 @@ judged {names} {loaded} {v} {s0} {s1} {s2} {q} {u} fresh d b h k =
           valid = judges.ok.valid;
           bears = judges.ok.bears;
           verified = verified names (clauses_in loaded.store) s0 s1 s2 v read.only judges.ok;
-          read_out = subst (IsReadOut (s0.file names.formula)) (sym (judges.only.inputs input.Formula formula_not_proof)) read.read_out;
+          read_out = subst (FormulaReadOut (s0.file names.formula)) (sym (judges.only.inputs input.Formula formula_not_proof)) read.read_out;
           made_nothing = read_nothing_made fresh both;
         },
         can_print v,

@@ -14,7 +14,7 @@ use Rattle.sdcl.specs.declared.verdict.Verdict.{Verdict}
 use Rattle.sdcl.specs.Starting.{OutSame, NoComplaint}
 use Rattle.sdcl.specs.Refusals.{refusal_line, Says, Complains, SaysLine}
 use Rattle.sdcl.specs.Verdicts.{Prints, text_of_verdict, status_of_verdict}
-use Rattle.sdcl.specs.Meaning.{Input, Output, Meaning, InputHas, OutputHas, AreUnopened, AnyInputHas, AnyOutputHas, AreSound, AreRead, AreWritten, OutPart, IsShown, Refused, Ends, NothingFailed, Completes, KeepsRest, StaysCalm}
+use Rattle.sdcl.specs.Meaning.{Input, Output, Meaning, InputHas, OutputHas, AreUnopened, AnyInputHas, AnyOutputHas, AreSound, AreRead, AreWritten, OutPart, IsShown, Refused, RunEnds, NothingFailed, Completes, KeepsRest, StaysCalm}
 use Rattle.sdcl.proofs.Roles.{out_not_err}
 use Rattle.sdcl.proofs.Streams.{OnlyStreams, made_nothing}
 use Rattle.sdcl.proofs.Later.{later_on, calm_after}
@@ -77,7 +77,7 @@ says_on s t u e result q l (inl h) = inl (h.0, says_line s t u (refusal_line e) 
 says_on s t u e result q l (inr h) = inr (h.0, (h.1.0, h.1.1, subst (λ x. Appends x (u.held output.Err) (take h.1.0 (refusal_line e))) q h.1.2))
 
 -- a refusal that was said
-pub said : {m : Meaning} {s t u : Seen} {e : Refusal} {result : Status} → IsLawful m → Refused m s t e → NoComplaint s t → Later s t → OnlyStreams t u → Complains e t u result → Ends m s u result
+pub said : {m : Meaning} {s t u : Seen} {e : Refusal} {result : Status} → IsLawful m → Refused m s t e → NoComplaint s t → Later s t → OnlyStreams t u → Complains e t u result → RunEnds m s u result
 said {m} {s} {t} {u} {e} {result} k h q l w c = inr (record {
   refusal = e;
   refused = record { shown = shown m s t u e k w (c.only.outputs output.Out out_not_err) h.shown; leaves = k.leaves s t u w h.leaves };
@@ -102,7 +102,7 @@ unprinted {m} {s} {t} {u} {v} {e} k g o l w r =
 
 -- a verdict that was printed
 pub printed : {m : Meaning} {s t u : Seen} {v : Verdict} {result : Status} → IsLawful m → m.gives s t v → OutSame s t → NoComplaint s t → OnlyStreams t u → u.held output.Err ≡ t.held output.Err
-    → Appends (t.held output.Out) (u.held output.Out) (text_of_verdict v) → result ≡ status_of_verdict v → Ends m s u result
+    → Appends (t.held output.Out) (u.held output.Out) (text_of_verdict v) → result ≡ status_of_verdict v → RunEnds m s u result
 printed {m} {s} {t} {u} {v} {result} k g o q w silent p e = inl (record {
   verdict = v;
   gives = k.gives s t u v w g;
@@ -160,6 +160,6 @@ only_memory m s t (At p x) result k a d n (inl h) c = absurd (no_inputs m.reads 
 only_memory m s t (At p x) result k a d n (inr (inl h)) c = absurd (no_outputs m.makes s t p x n.makes h.has)
 only_memory m s t (At p x) result k a d n (inr (inr h)) c = absurd (n.printed h.rose)
 
-pub completed : {m : Meaning} {s t : Seen} {result : Status} → IsLawful m → Ends m s t result → Completes m s t result
+pub completed : {m : Meaning} {s t : Seen} {result : Status} → IsLawful m → RunEnds m s t result → Completes m s t result
 completed k (inl h) a d n = inl h
 completed {m} {s} {t} {result} k (inr h) a d n = inr (only_memory m s t h.refusal result k a d n h.refused.shown h.says)

@@ -15,10 +15,10 @@ use Rattle.sdcl.specs.declared.refusal.Refusal.TheVariants.{Usage}
 use Rattle.sdcl.specs.Starting.{IsFresh}
 use Rattle.sdcl.specs.Meaning.{Performs}
 use Rattle.sdcl.specs.Commands.{Names, Plan, Solve, Check}
-use Rattle.sdcl.specs.Loading.{StandsFor, IsSoundFormula, IsReadOut, formula_in}
+use Rattle.sdcl.specs.Loading.{StandsFor, IsSoundFormula, FormulaReadOut, formula_in}
 use Rattle.sdcl.specs.Judging.{JudgedAs, IsReadTo, judgement, judgement_in}
-use Rattle.sdcl.specs.Solving.{HoldsProof, Solves, solving}
-use Rattle.sdcl.specs.Checking.{IsJudgedAs, IsSoundProof, IsVerified, Checks, checking, proof_in}
+use Rattle.sdcl.specs.Solving.{HoldsProof, IsSolved, solving}
+use Rattle.sdcl.specs.Checking.{IsJudgedAs, IsSoundProof, IsVerified, IsChecked, checking, proof_in}
 use Rattle.sdcl.specs.Running.{meaning_of, refusing}
 use Rattle.sdcl.proofs.Roles.{proof_not_out, proof_not_err}
 use Rattle.sdcl.proofs.Streams.{OnlyStreams, OnlyReads, made_nothing, read_nothing_made, keeps_reading}
@@ -92,7 +92,7 @@ holds_proof names s t u w h =
       };
     }
 
-solves : (names : Names) (s t u : Seen) (v : Verdict) → OnlyStreams t u → Solves names s t v → Solves names s u v
+solves : (names : Names) (s t u : Seen) (v : Verdict) → OnlyStreams t u → IsSolved names s t v → IsSolved names s u v
 unfolding holds_proof
 solves names s t u v w h = record {
   proof = holds_proof names s t u w h.proof;
@@ -101,13 +101,13 @@ solves names s t u v w h = record {
   is = h.is;
   bears = h.bears;
   refuted = h.refuted;
-  read_out = λ tells. subst (IsReadOut (s.file names.formula)) (sym (w.inputs input.Formula)) (h.read_out tells);
+  read_out = λ tells. subst (FormulaReadOut (s.file names.formula)) (sym (w.inputs input.Formula)) (h.read_out tells);
 }
 
 verified : (names : Names) (s t u : Seen) (f : List Clause) (steps : List Step) → OnlyStreams t u → IsVerified names s t f steps → IsVerified names s u f steps
 verified names s t u f steps w h = record { unsatisfiable = h.unsatisfiable; read_to = subst (IsReadTo steps (s.file names.proof)) (sym (w.inputs input.Proof)) h.read_to }
 
-checks : (names : Names) (s t u : Seen) (v : Verdict) → OnlyStreams t u → Checks names s t v → Checks names s u v
+checks : (names : Names) (s t u : Seen) (v : Verdict) → OnlyStreams t u → IsChecked names s t v → IsChecked names s u v
 checks names s t u v w h = record {
   found = h.found;
   is = h.is;
@@ -116,7 +116,7 @@ checks names s t u v w h = record {
   valid = h.valid;
   bears = h.bears;
   verified = λ e. verified names s t u h.judged.clauses h.steps w (h.verified e);
-  read_out = subst (IsReadOut (s.file names.formula)) (sym (w.inputs input.Formula)) h.read_out;
+  read_out = subst (FormulaReadOut (s.file names.formula)) (sym (w.inputs input.Formula)) h.read_out;
   made_nothing = made_nothing w h.made_nothing;
 }
 

@@ -14,12 +14,12 @@ use Rattle.sdcl.specs.declared.solving.TheConstants.{BUDGET}
 use Rattle.sdcl.specs.declared.verdict.Verdict.TheVariants as verdict
 use Rattle.sdcl.specs.declared.refusal.Refusal.{Refusal}
 use Rattle.sdcl.specs.Commands.{Names}
-use Rattle.sdcl.specs.Loading.{Loads, IsLoaded, IsReadOut}
-use Rattle.sdcl.specs.Proving.{Proves, Finds, IsMade, OnlyProof}
+use Rattle.sdcl.specs.Loading.{Loads, IsLoaded, FormulaReadOut}
+use Rattle.sdcl.specs.Proving.{Proves, FindsAnswer, IsMade, OnlyProof}
 use Rattle.sdcl.specs.Verdicts.{CanPrint}
 use Rattle.sdcl.specs.Starting.{IsFresh}
 use Rattle.sdcl.specs.Meaning.{KeepsRest, Performs}
-use Rattle.sdcl.specs.Solving.{AreRefutation, Solves, solving, verdict_of_answer}
+use Rattle.sdcl.specs.Solving.{AreRefutation, IsSolved, solving, verdict_of_answer}
 use Rattle.sdcl.proofs.Roles.{err_not_proof, out_not_proof, some_same}
 use Rattle.sdcl.proofs.Formed.{read_back}
 use Rattle.sdcl.proofs.Later.{later_on, calm_after}
@@ -31,7 +31,7 @@ record Phases (names : Names) (n : ℕ) (f : List Clause) (s0 s1 s2 : Seen) : Ty
   fresh : IsFresh s0
   differ : names.formula ≡ names.proof → ⊥
   read : OnlyRead input.Formula s0 s1
-  read_out : IsReadOut (s0.file names.formula) (s1.left input.Formula)
+  read_out : FormulaReadOut (s0.file names.formula) (s1.left input.Formula)
   stands : IsTrue s0.tells → s1.stands input.Formula ≡ Some names.formula
   loaded : IsLoaded names.formula s0 n f
   only : OnlyProof names.proof s1 s2
@@ -51,12 +51,12 @@ out_same names n f s0 s1 s2 p = p.only.outputs output.Out out_not_proof ∙ p.re
 
 -- ---- a verdict
 
-refutes : (n : ℕ) (f : List Clause) (s : Seen) (a : Answer) (h : Finds n BUDGET f s a) (name : List ℕ) (t : Seen) → IsLoaded name t n f → verdict_of_answer n a ≡ verdict.Unsatisfiable → AreRefutation f h.steps
+refutes : (n : ℕ) (f : List Clause) (s : Seen) (a : Answer) (h : FindsAnswer n BUDGET f s a) (name : List ℕ) (t : Seen) → IsLoaded name t n f → verdict_of_answer n a ≡ verdict.Unsatisfiable → AreRefutation f h.steps
 refutes n f s (answer.Model a) h name t l e = absurd cc
 refutes n f s answer.Refuted h name t l e = record { unsatisfiable = verified_law All f h.steps End h.bears.3; checked = read_back n f h.steps l.few h.lawful.new h.bears.3 }
 refutes n f s answer.Spent h name t l e = absurd cc
 
-solves : (names : Names) (n : ℕ) (f : List Clause) (a : Answer) (s0 s1 s2 : Seen) → Phases names n f s0 s1 s2 → IsMade names.proof s2 → Finds n BUDGET f s2 a → Solves names s0 s2 (verdict_of_answer n a)
+solves : (names : Names) (n : ℕ) (f : List Clause) (a : Answer) (s0 s1 s2 : Seen) → Phases names n f s0 s1 s2 → IsMade names.proof s2 → FindsAnswer n BUDGET f s2 a → IsSolved names s0 s2 (verdict_of_answer n a)
 solves names n f a s0 s1 s2 p made h = record {
   proof = record { variables = n; clauses = f; text = p.loaded.text; made = made; written = record { steps = h.steps; torn = None; lawful = h.lawful; holds = h.holds } };
   whole = refl;
@@ -64,11 +64,11 @@ solves names n f a s0 s1 s2 p made h = record {
   is = refl;
   bears = h.bears;
   refuted = refutes n f s2 a h names.formula s0 p.loaded;
-  read_out = λ tells. subst (IsReadOut (s0.file names.formula))
+  read_out = λ tells. subst (FormulaReadOut (s0.file names.formula))
       (sym (p.only.inputs (subst IsTrue (sym p.read.later.tells) tells) input.Formula (λ e. p.differ (some_same names.formula names.proof (sym (p.stands tells) ∙ e))))) p.read_out;
 }
 
-can_print : (n : ℕ) (f : List Clause) (s : Seen) (a : Answer) (h : Finds n BUDGET f s a) (name : List ℕ) (t : Seen) → IsLoaded name t n f → CanPrint (verdict_of_answer n a)
+can_print : (n : ℕ) (f : List Clause) (s : Seen) (a : Answer) (h : FindsAnswer n BUDGET f s a) (name : List ℕ) (t : Seen) → IsLoaded name t n f → CanPrint (verdict_of_answer n a)
 can_print n f s (answer.Model a) h name t l = (l.few, h.bears.0)
 can_print n f s answer.Refuted h name t l = tt
 can_print n f s answer.Spent h name t l = tt

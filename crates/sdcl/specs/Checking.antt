@@ -10,7 +10,7 @@ use Rattle.sdcl_prcheck.specs.Checking.{Bears}
 use Rattle.sdcl_prcheck.specs.declared.verdict.Verdict.{Verdict as Found}
 use Rattle.sdcl_prcheck.specs.declared.verdict.Verdict.TheVariants as found
 use Rattle.sdcl.specs.Commands.{Names}
-use Rattle.sdcl.specs.Loading.{StandsFor, IsReadOut, IsAccepted, IsSoundFormula, formula_in}
+use Rattle.sdcl.specs.Loading.{StandsFor, FormulaReadOut, IsAccepted, IsSoundFormula, formula_in}
 use Rattle.sdcl.specs.Judging.{JudgedAs, IsReadTo, judgement, judgement_in}
 use Rattle.sdcl.specs.Starting.{MadeNothing}
 use Rattle.sdcl.specs.Meaning.{Input, Meaning}
@@ -59,7 +59,7 @@ pub record IsVerified (names : Names) (s t : Seen) (clauses : List Clause) (step
 
 -- what a verdict rests on: the formula was read out, and the proof judged; the steps that were taken are valid, and of the
 -- next one the verdict speaks; nothing was made
-pub record Checks (names : Names) (s t : Seen) (v : Verdict) : Type 0 where
+pub record IsChecked (names : Names) (s t : Seen) (v : Verdict) : Type 0 where
   pub found : Found
   pub is : v ≡ verdict_of_checker found
   pub judged : IsJudgedAs names s (judgement_in found)
@@ -67,7 +67,7 @@ pub record Checks (names : Names) (s t : Seen) (v : Verdict) : Type 0 where
   pub valid : ValidSteps judged.clauses steps
   pub bears : Bears judged.clauses steps found
   pub verified : v ≡ verdict.Verified → IsVerified names s t judged.clauses steps
-  pub read_out : IsReadOut (s.file names.formula) (t.left input.Formula)
+  pub read_out : FormulaReadOut (s.file names.formula) (t.left input.Formula)
   pub made_nothing : MadeNothing s t
 
 -- the command `check`
@@ -76,6 +76,6 @@ checking names = record {
   asked = true;
   reads = formula_in names.formula ∷ proof_in names ∷ [];
   makes = [];
-  gives = Checks names;
+  gives = IsChecked names;
   leaves = MadeNothing;
 }

@@ -66,10 +66,10 @@ pub record LeftBehind (text left : List ℕ) : Type 0 where
   pub behind : more ≡ kept ++ left
 
 -- the same, where the text is told
-abbrev pub IsReadOut : Option (List ℕ) → Option (List ℕ) → Type 0
-IsReadOut None left = ⊤
-IsReadOut (Some text) None = ⊥
-IsReadOut (Some text) (Some left) = LeftBehind text left
+abbrev pub FormulaReadOut : Option (List ℕ) → Option (List ℕ) → Type 0
+FormulaReadOut None left = ⊤
+FormulaReadOut (Some text) None = ⊥
+FormulaReadOut (Some text) (Some left) = LeftBehind text left
 
 -- the formula that the named file's text stands for
 pub record IsLoaded (name : List ℕ) (s : Seen) (variables : ℕ) (f : List Clause) : Type 0 where
@@ -84,6 +84,6 @@ pub record Loads (name : List ℕ) (s t : Seen) (result : Result Loaded Refusal)
   pub calm : IsSome (s.file name) → Calm s t
   pub ok : IfOk result (λ loaded. IsLoaded name s loaded.variables (clauses_in loaded.store))
   pub whole : IfOk result (λ loaded. IsWhole loaded.store)
-  pub read_out : OnOk result (IsReadOut (s.file name) (t.left Formula))
+  pub read_out : OnOk result (FormulaReadOut (s.file name) (t.left Formula))
   pub stands : OnOk result (IsTrue s.tells → t.stands Formula ≡ Some name)
   pub err : IfErr result (λ e. InputRefuses (formula_in name) s t e)

@@ -162,8 +162,8 @@ pub record HasRefusal (m : Meaning) (s t : Seen) (result : Status) : Type 0 wher
   pub refused : Refused m s t refusal
   pub says : Says refusal s t result
 
-abbrev pub Ends : Meaning → Seen → Seen → Status → Type 0
-Ends m s t result = HasVerdict m s t result ⊎ HasRefusal m s t result
+abbrev pub RunEnds : Meaning → Seen → Seen → Status → Type 0
+RunEnds m s t result = HasVerdict m s t result ⊎ HasRefusal m s t result
 
 -- ---- a run of which nothing failed
 
@@ -181,7 +181,8 @@ AreRead (i ∷ is) s t = ((InputHas i s t trouble.Open → ⊥) × (InputHas i s
 abbrev pub AreWritten : List Output → Seen → Seen → Type 0
 AreWritten [] s t = ⊤
 AreWritten (o ∷ os) s t =
-    ((Rose (s.create_faults o.role o.name) (t.create_faults o.role o.name) → ⊥) × (Rose (s.write_faults o.role) (t.write_faults o.role) → ⊥))
+    ((Rose (s.create_faults o.role o.name) (t.create_faults o.role o.name) → ⊥)
+    × (Rose (s.write_faults o.role) (t.write_faults o.role) → ⊥))
     × AreWritten os s t
 
 pub record NothingFailed (m : Meaning) (s t : Seen) : Type 0 where
@@ -191,7 +192,8 @@ pub record NothingFailed (m : Meaning) (s t : Seen) : Type 0 where
 
 -- where the words ask for a command, each text is sound, and nothing failed, there is a verdict, or memory was not found
 abbrev pub Completes : Meaning → Seen → Seen → Status → Type 0
-Completes m s t result = m.asked ≡ true → AreSound m.reads s → NothingFailed m s t → HasVerdict m s t result ⊎ (result ≡ status.Memory)
+Completes m s t result =
+    m.asked ≡ true → AreSound m.reads s → NothingFailed m s t → HasVerdict m s t result ⊎ (result ≡ status.Memory)
 
 -- ---- what a run leaves as it was
 

@@ -41,7 +41,7 @@ pub record WritesPart (n budget : ℕ) (f : List Clause) (t : Seen) : Type 0 whe
   pub holds : HoldsSteps Proof t steps torn
 
 -- the output Proof holds the lines of such steps, and they bear the answer out
-pub record Finds (n budget : ℕ) (f : List Clause) (t : Seen) (answer : Answer) : Type 0 where
+pub record FindsAnswer (n budget : ℕ) (f : List Clause) (t : Seen) (answer : Answer) : Type 0 where
   pub steps : List Step
   pub lawful : Lawful n budget f steps None
   pub holds : HoldsSteps Proof t steps None
@@ -56,6 +56,6 @@ pub record IsMade (name : List ℕ) (t : Seen) : Type 0 where
 pub record Proves (name : List ℕ) (n budget : ℕ) (f : List Clause) (s t : Seen) (result : Result Answer Refusal) : Type 0 where
   pub only : OnlyProof name s t
   pub calm : Calm s t
-  pub ok : IfOk result (λ answer. IsMade name t × Finds n budget f t answer)
+  pub ok : IfOk result (λ answer. IsMade name t × FindsAnswer n budget f t answer)
   pub err : IfErr result (λ e. OutputRefuses (proof_out name (λ u. ⊤)) s t e)
   pub left : IfErr result (λ e. Unchanged s t ⊎ (IsMade name t × WritesPart n budget f t))

@@ -57,7 +57,8 @@ blamed p x NoMemory = Memory
 abbrev pub SaysLine : List ℕ → Seen → Seen → Type 0
 SaysLine line s t =
     Appends (s.held output.Err) (t.held output.Err) line
-    ⊎ ((n : ℕ) × (n < length line) × Appends (s.held output.Err) (t.held output.Err) (take n line) × Rose (s.write_faults output.Err) (t.write_faults output.Err))
+    ⊎ ((n : ℕ) × (n < length line) × Appends (s.held output.Err) (t.held output.Err) (take n line)
+    × Rose (s.write_faults output.Err) (t.write_faults output.Err))
 
 -- standard error got a prefix of the line
 abbrev pub SaysPrefix : List ℕ → Seen → Seen → Type 0
@@ -65,7 +66,9 @@ SaysPrefix line s t = (n : ℕ) × (n ≤ length line) × Appends (s.held output
 
 -- the refusal was said, and gives its status; where memory is wanted for the saying, that is the status
 abbrev pub Says : Refusal → Seen → Seen → Status → Type 0
-Says e s t result = ((result ≡ status_of e) × SaysLine (refusal_line e) s t) ⊎ ((result ≡ status.Memory) × SaysPrefix (refusal_line e) s t)
+Says e s t result =
+    ((result ≡ status_of e) × SaysLine (refusal_line e) s t)
+    ⊎ ((result ≡ status.Memory) × SaysPrefix (refusal_line e) s t)
 
 -- what the saying of a refusal did
 pub record Complains (e : Refusal) (s t : Seen) (result : Status) : Type 0 where

@@ -11,7 +11,7 @@ use Rattle.sdcl_outer.specs.Outcome.{Ends as Concludes}
 use Rattle.sdcl_outer.specs.declared.solving.Answer.{Answer}
 use Rattle.sdcl_outer.specs.declared.solving.Answer.TheVariants as answer
 use Rattle.sdcl.specs.Commands.{Names}
-use Rattle.sdcl.specs.Loading.{StandsFor, IsReadOut, IsAccepted, formula_in}
+use Rattle.sdcl.specs.Loading.{StandsFor, FormulaReadOut, IsAccepted, formula_in}
 use Rattle.sdcl.specs.Judging.{judgement}
 use Rattle.sdcl.specs.Proving.{IsMade, WritesPart, proof_out}
 use Rattle.sdcl.specs.Starting.{MadeNothing}
@@ -42,14 +42,14 @@ pub record AreRefutation (clauses : List Clause) (steps : List Step) : Type 0 wh
   pub checked : length (text_of steps) ≤ PROOF_LIMIT → judgement clauses (text_of steps) ≡ Verified
 
 -- what a verdict rests on: the proof holds whole lines alone, whose steps bear the answer out, and the formula was read out
-pub record Solves (names : Names) (s t : Seen) (v : Verdict) : Type 0 where
+pub record IsSolved (names : Names) (s t : Seen) (v : Verdict) : Type 0 where
   pub proof : HoldsProof names s t
   pub whole : proof.written.torn ≡ None
   pub answer : Answer
   pub is : v ≡ verdict_of_answer proof.variables answer
   pub bears : Concludes proof.clauses proof.variables BUDGET proof.written.steps answer
   pub refuted : v ≡ verdict.Unsatisfiable → AreRefutation proof.clauses proof.written.steps
-  pub read_out : IsTrue s.tells → IsReadOut (s.file names.formula) (t.left input.Formula)
+  pub read_out : IsTrue s.tells → FormulaReadOut (s.file names.formula) (t.left input.Formula)
 
 -- the command `solve`
 abbrev pub solving : Names → Meaning
@@ -57,6 +57,6 @@ solving names = record {
   asked = true;
   reads = formula_in names.formula ∷ [];
   makes = proof_out names.proof (IsAccepted names.formula) ∷ [];
-  gives = Solves names;
+  gives = IsSolved names;
   leaves = λ s t. MadeNothing s t ⊎ HoldsProof names s t;
 }

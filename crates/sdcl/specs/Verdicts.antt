@@ -41,7 +41,8 @@ CanPrint (verdict.NotVerified k) = ⊤
 
 -- a write on standard output failed, or memory was wanted
 abbrev pub IsUnprinted : Seen → Seen → Refusal → Type 0
-IsUnprinted s t e = (e ≡ Memory) ⊎ ((e ≡ At place.Out trouble.Write) × Rose (s.write_faults output.Out) (t.write_faults output.Out))
+IsUnprinted s t e =
+    (e ≡ Memory) ⊎ ((e ≡ At place.Out trouble.Write) × Rose (s.write_faults output.Out) (t.write_faults output.Out))
 
 -- standard output got a proper prefix of the text
 abbrev pub PrintsPart : List ℕ → Seen → Seen → Type 0

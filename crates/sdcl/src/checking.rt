@@ -20,7 +20,8 @@ pub fn check<W: World>(
     proof: &str,
 ) -> Result<Verdict, Refusal>
     requires { IsFresh (W.seen world.old) }
-    ensures performs { Performs (checking (record { formula = formula.now; proof = proof.now })) (W.seen world.old) (W.seen world.new) result }
+    ensures performs { Performs (checking (record { formula = formula.now; proof = proof.now }))
+        (W.seen world.old) (W.seen world.new) result }
     ensures follows { W.follows world.old world.new }
 {
     let loaded = load(alloc, world, formula)?;

@@ -13,7 +13,8 @@ pub enum Command<'w> {
 
 /// The command that the words are: `solve` and two different names, or `check` and two names.
 pub fn command_of(words: &[String]) -> Option<Command<'_>>
-    ensures plan { MatchOption result (plan_of words.now ≡ None) (λ c. plan_of words.now ≡ Some (plan_in c)) }
+    ensures plan { MatchOption result (plan_of words.now ≡ None)
+        (λ c. plan_of words.now ≡ Some (plan_in c)) }
     ensures apart { IfSome result (λ c. AreApart (plan_in c)) }
 {
     let [command, formula, proof] = words else {

@@ -83,8 +83,10 @@ fn judge_open<W: World>(
     requires open { IsTrue ((W.seen world.old).is_open input.Proof) }
     ensures only { OnlyRead input.Proof (W.seen world.old) (W.seen world.new) }
     ensures calm { Calm (W.seen world.old) (W.seen world.new) }
-    ensures judges { JudgesText database.old.clauses ((W.seen world.old).left input.Proof) ((W.seen world.new).left input.Proof) result }
-    ensures fault { IsErrOf result ProofError.ReadFault → Rose ((W.seen world.old).read_faults input.Proof) ((W.seen world.new).read_faults input.Proof) }
+    ensures judges { JudgesText database.old.clauses
+        ((W.seen world.old).left input.Proof) ((W.seen world.new).left input.Proof) result }
+    ensures fault { IsErrOf result ProofError.ReadFault
+        → Rose ((W.seen world.old).read_faults input.Proof) ((W.seen world.new).read_faults input.Proof) }
     ensures follows { W.follows world.old world.new }
 {
     let mut steps = steps_of(Reader::new(world, InRole::Proof, PROOF_LIMIT));
@@ -96,8 +98,14 @@ fn steps_of<'w, W: World>(reader: Reader<'w, W>) -> StepReader<'w, W>
     requires fresh { (reading reader).given ≡ 0 }
     requires sound { (reading reader).failed ≡ None }
     ensures same_reference { result.words.reader.world.ghost_name ≡ reader.entry.world.ghost_name }
-    ensures view { stepping result ≡ record { words = record { reading = reading reader.entry; at_line_start = true }; dialect = Dialect.Pr; failed = None } }
-    ensures text { left_in (stepping result) ≡ text_in Dialect.Pr (reading reader.entry).limit (reading reader.entry).rest }
+    ensures view { stepping result
+        ≡ record {
+          words = record { reading = reading reader.entry; at_line_start = true };
+          dialect = Dialect.Pr;
+          failed = None;
+        } }
+    ensures text { left_in (stepping result)
+        ≡ text_in Dialect.Pr (reading reader.entry).limit (reading reader.entry).rest }
     ensures same_world { result.words.reader.world.now ≡ reader.entry.world.now }
 {
     match StepReader::new(reader, Dialect::Pr) {

@@ -7,7 +7,7 @@ ghost use Rattle.sdcl_store.specs.Stores.{fresh, clauses_in, IsWhole};
 ghost use Rattle.sdcl_dimacs.specs.Within.{IsFormula};
 ghost use Rattle.sdcl_dimacs.specs.Answers.{Answers};
 ghost use Rattle.sdcl.specs.declared.loading.TheConstants.{FORMULA_LIMIT};
-ghost use Rattle.sdcl.specs.Loading.{IsReadOut, Loads, refusal_for};
+ghost use Rattle.sdcl.specs.Loading.{FormulaReadOut, Loads, refusal_for};
 
 use crate::refusal::{Place, Refusal, Trouble, blame};
 use sdcl_dimacs::{FormulaError, Header, read_formula};
@@ -50,11 +50,14 @@ fn read<W: World>(alloc: Global, world: &mut W, store: &mut Store) -> Result<Hea
     ensures only { OnlyRead Formula (W.seen world.old) (W.seen world.new) }
     ensures calm { Calm (W.seen world.old) (W.seen world.new) }
     ensures within { IfOk result (λ h. IsFormula h (clauses_in store.new)) }
-    ensures text { IfSome ((W.seen world.old).left Formula) (λ text. Answers result (clauses_in store.new) (formula_text FORMULA_LIMIT text)) }
+    ensures text { IfSome ((W.seen world.old).left Formula)
+        (λ text. Answers result (clauses_in store.new) (formula_text FORMULA_LIMIT text)) }
     ensures whole { IsWhole store.new }
-    ensures read_out { OnOk result (IsReadOut ((W.seen world.old).left Formula) ((W.seen world.new).left Formula)) }
+    ensures read_out { OnOk result
+        (FormulaReadOut ((W.seen world.old).left Formula) ((W.seen world.new).left Formula)) }
     ensures stands { (W.seen world.new).stands Formula ≡ (W.seen world.old).stands Formula }
-    ensures fault { IsErrOf result FormulaError.ReadFault → Rose ((W.seen world.old).read_faults Formula) ((W.seen world.new).read_faults Formula) }
+    ensures fault { IsErrOf result FormulaError.ReadFault
+        → Rose ((W.seen world.old).read_faults Formula) ((W.seen world.new).read_faults Formula) }
     ensures follows { W.follows world.old world.new }
 {
     let mut reader = Reader::new(world, InRole::Formula, FORMULA_LIMIT);

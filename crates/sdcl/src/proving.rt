@@ -6,7 +6,7 @@ ghost use Rattle.sdcl_proof.specs.Files.{Onward, HoldsSteps};
 ghost use Rattle.sdcl_base.specs.Sets.{WithinVariables};
 ghost use Rattle.sdcl_base.specs.declared.lit.TheConstants.{MAX_VARIABLE};
 ghost use Rattle.sdcl_store.specs.Stores.{clauses_in};
-ghost use Rattle.sdcl.specs.Proving.{Proves, Finds, WritesPart};
+ghost use Rattle.sdcl.specs.Proving.{Proves, FindsAnswer, WritesPart};
 
 use crate::loading::Loaded;
 use crate::refusal::{Place, Refusal, Trouble, blame};
@@ -26,7 +26,8 @@ pub fn prove<W: World>(
     requires few { loaded.variables ≤ MAX_VARIABLE }
     requires within { WithinVariables loaded.variables (clauses_in loaded.store) }
     requires room { length loaded.store.slots + options.now.budget < 4294967294 }
-    ensures proves { Proves name.now loaded.variables options.now.budget (clauses_in loaded.store) (W.seen world.old) (W.seen world.new) result }
+    ensures proves { Proves name.now loaded.variables options.now.budget (clauses_in loaded.store)
+        (W.seen world.old) (W.seen world.new) result }
     ensures follows { W.follows world.old world.new }
 {
     if let Err(failed) = world.create_output(OutRole::Proof, name) {
@@ -52,9 +53,12 @@ fn solve_into_file<W: World>(
     requires within { WithinVariables loaded.variables (clauses_in loaded.store) }
     requires room { length loaded.store.slots + options.now.budget < 4294967294 }
     ensures onward { Onward Proof (W.seen world.old) (W.seen world.new) }
-    ensures ok { IfOk result (λ a. Finds loaded.variables options.now.budget (clauses_in loaded.store) (W.seen world.new) a) }
-    ensures err { OnErr result (WritesPart loaded.variables options.now.budget (clauses_in loaded.store) (W.seen world.new)) }
-    ensures fault { IsErrOf result SolveError.WriteFault → Rose ((W.seen world.old).write_faults Proof) ((W.seen world.new).write_faults Proof) }
+    ensures ok { IfOk result
+        (λ a. FindsAnswer loaded.variables options.now.budget (clauses_in loaded.store) (W.seen world.new) a) }
+    ensures err { OnErr result
+        (WritesPart loaded.variables options.now.budget (clauses_in loaded.store) (W.seen world.new)) }
+    ensures fault { IsErrOf result SolveError.WriteFault
+        → Rose ((W.seen world.old).write_faults Proof) ((W.seen world.new).write_faults Proof) }
     ensures follows { W.follows world.old world.new }
 {
     let Loaded { variables, store } = loaded;

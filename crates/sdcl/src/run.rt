@@ -1,9 +1,9 @@
 //! The whole program, over any world.
 ghost use Rattle.std.specs.Prelude.{◌≡◌, Some};
-ghost use Rattle.sdcl.specs.Commands.{plan_of, plan_in, AreApart};
+ghost use Rattle.sdcl.specs.Commands.{plan_in, AreApart};
 ghost use Rattle.sdcl.specs.Starting.{IsFresh};
-ghost use Rattle.sdcl.specs.Meaning.{Performs, Ends, Completes, KeepsRest, StaysCalm};
-ghost use Rattle.sdcl.specs.Running.{meaning_of};
+ghost use Rattle.sdcl.specs.Meaning.{Performs, RunEnds, Completes, KeepsRest, StaysCalm};
+ghost use Rattle.sdcl.specs.Running.{meant, meaning_of};
 
 use crate::checking::check;
 use crate::commands::{Command, command_of};
@@ -19,10 +19,10 @@ use std::alloc::Global;
 /// line's words without the program's name.
 pub fn run<W: World>(alloc: Global, world: &mut W, words: &[String]) -> Status
     requires { IsFresh (W.seen world.old) }
-    ensures ends { Ends (meaning_of (plan_of words.now)) (W.seen world.old) (W.seen world.new) result }
-    ensures completes { Completes (meaning_of (plan_of words.now)) (W.seen world.old) (W.seen world.new) result }
-    ensures keeps { KeepsRest (meaning_of (plan_of words.now)) (W.seen world.old) (W.seen world.new) }
-    ensures calm { StaysCalm (meaning_of (plan_of words.now)) (W.seen world.old) (W.seen world.new) }
+    ensures ends { RunEnds (meant words.now) (W.seen world.old) (W.seen world.new) result }
+    ensures completes { Completes (meant words.now) (W.seen world.old) (W.seen world.new) result }
+    ensures keeps { KeepsRest (meant words.now) (W.seen world.old) (W.seen world.new) }
+    ensures calm { StaysCalm (meant words.now) (W.seen world.old) (W.seen world.new) }
     ensures follows { W.follows world.old world.new }
 {
     match attempt(alloc, world, words) {
@@ -37,7 +37,7 @@ pub fn run<W: World>(alloc: Global, world: &mut W, words: &[String]) -> Status
 // Does what the words say, up to the saying how it ended.
 fn attempt<W: World>(alloc: Global, world: &mut W, words: &[String]) -> Result<Verdict, Refusal>
     requires { IsFresh (W.seen world.old) }
-    ensures performs { Performs (meaning_of (plan_of words.now)) (W.seen world.old) (W.seen world.new) result }
+    ensures performs { Performs (meant words.now) (W.seen world.old) (W.seen world.new) result }
     ensures follows { W.follows world.old world.new }
 {
     match command_of(words) {
@@ -50,7 +50,8 @@ fn attempt<W: World>(alloc: Global, world: &mut W, words: &[String]) -> Result<V
 fn perform<W: World>(alloc: Global, world: &mut W, command: Command<'_>) -> Result<Verdict, Refusal>
     requires fresh { IsFresh (W.seen world.old) }
     requires apart { AreApart (plan_in command) }
-    ensures performs { Performs (meaning_of (Some (plan_in command.entry))) (W.seen world.old) (W.seen world.new) result }
+    ensures performs { Performs (meaning_of (Some (plan_in command.entry)))
+        (W.seen world.old) (W.seen world.new) result }
     ensures follows { W.follows world.old world.new }
 {
     match command {

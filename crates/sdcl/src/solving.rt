@@ -24,7 +24,8 @@ pub fn solve<W: World>(
 ) -> Result<Verdict, Refusal>
     requires fresh { IsFresh (W.seen world.old) }
     requires differ { formula.now ≡ proof.now → ⊥ }
-    ensures performs { Performs (solving (record { formula = formula.now; proof = proof.now })) (W.seen world.old) (W.seen world.new) result }
+    ensures performs { Performs (solving (record { formula = formula.now; proof = proof.now }))
+        (W.seen world.old) (W.seen world.new) result }
     ensures follows { W.follows world.old world.new }
 {
     let loaded = load(alloc, world, formula)?;
