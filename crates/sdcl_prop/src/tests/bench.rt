@@ -27,7 +27,8 @@ impl Model for Bench {
 
     ghost view = { λ b. 0 };
 
-    ghost invariant = { λ b. Covers b.engine b.store.slots × (b.engine.variables ≡ 8) × (b.trail.variables ≡ 8) × (b.other.variables ≡ 8) };
+    ghost invariant = { λ b.
+        Covers b.engine b.store.slots × (b.engine.variables ≡ 8) × (b.trail.variables ≡ 8) × (b.other.variables ≡ 8) };
 }
 
 impl Bench {
