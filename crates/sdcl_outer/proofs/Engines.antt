@@ -56,42 +56,6 @@ slot_within (t ∷ slots) (suc i) s = let r : i < length slots = slot_within slo
 
 -- ---- a clause that joins
 
-slot_joined : (slots : Slots) (c : Clause) (i : ℕ) → i < length slots → slot_at (slots ++ Some c ∷ []) i ≡ slot_at slots i
-slot_joined slots c i h = get_or_append_left slots (Some c ∷ []) None i h
-
-fits_stays : (e : Kept) (s t : Slots) → Fits e s → ((i : ℕ) → is_attached e i ≡ true → (is_alive t i ≡ true) × (clause_of t i ≡ clause_of s i)) → Fits e t
-fits_stays e s t fits same = record {
-  live = λ i a. (same i a).0;
-  range = λ i a. rw (same i a).1 (fits.range i a);
-  holds = λ w g. rw (same (w / 2) (ap is_kept g)).1 (fits.holds w g);
-  apart = fits.apart;
-}
-
-pub fits_joined : (e : Kept) (slots : Slots) (c : Clause) → Covers e slots → Fits e (slots ++ Some c ∷ [])
-fits_joined e slots c h =
-    fits_stays e slots (slots ++ Some c ∷ []) h.fits (λ i a.
-    let s : IsSome (slot_at slots i) = h.fits.live i a in
-    let q : slot_at (slots ++ Some c ∷ []) i ≡ slot_at slots i = slot_joined slots c i (slot_within slots i s) in
-    (subst IsSome (sym q) s, ap (λ (o : Option Clause). unwrap_or o []) q))
-
-pub new_free : (e : Kept) (slots : Slots) (n : ℕ) → Covers e slots → n ≡ length slots → is_attached e n ≡ false
-new_free e slots n h q = false_from_ne_true (is_attached e n) (λ a. let r : n < length slots = slot_within slots n (h.fits.live n a) in absurd (omega (arith, r, q)))
-
-one_more : (slots : Slots) (c : Clause) (i : ℕ) → IsSome (slot_at (slots ++ Some c ∷ []) i) → (i < length slots) ⊎ (i ≡ length slots)
-one_more [] c zero s = inr refl
-one_more [] c (suc i) s = absurd (false≢true s)
-one_more (t ∷ slots) c zero s = inl (omega arith)
-one_more (t ∷ slots) c (suc i) s = elim (one_more slots c i s) [ inl r ↦ inl (omega (arith, r)) | inr r ↦ inr (ap suc r) ]
-
-pub covers_joined : (e f : Kept) (slots : Slots) (c : Clause) (n : ℕ) → Covers e slots → n ≡ length slots → Attaches e f n → Fits f (slots ++ Some c ∷ []) → Covers f (slots ++ Some c ∷ [])
-covers_joined e f slots c n h q a k = record {
-  fits = k;
-  all = λ i s. elim (one_more slots c i s) [
-    | inl r ↦ a.same i ∙ ap (λ b. if b then true else is_attached e i) (ne_eqb i n (λ w. omega (arith, r, w, q))) ∙ h.all i (subst IsSome (slot_joined slots c i r) s)
-    | inr r ↦ a.same i ∙ ap (λ b. if b then true else is_attached e i) (eq-eqb i n (r ∙ sym q))
-  ];
-}
-
 pub joined_clause : (slots : Slots) (c : Clause) (n : ℕ) → n ≡ length slots → clause_of (slots ++ Some c ∷ []) n ≡ c
 joined_clause [] c n q = ap (λ i. clause_of (Some c ∷ []) i) q
 joined_clause (t ∷ slots) c n q = ap (λ i. clause_of ((t ∷ slots) ++ Some c ∷ []) i) q ∙ joined_clause slots c (length slots) refl

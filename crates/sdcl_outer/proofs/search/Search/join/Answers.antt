@@ -5,12 +5,13 @@ use Rattle.sdcl_base.specs.Marks.{firsts}
 use Rattle.sdcl_store.specs.Slots.{Slots, clause_of}
 use Rattle.sdcl_store.specs.Stores.{clauses_in}
 use Rattle.sdcl_trail.specs.Levels.{Levels, decisions, lits_of, pushed, up_to, IsSound}
-use Rattle.sdcl_prop.specs.Fitting.{Fits, Covers}
+use Rattle.sdcl_prop.specs.Fitting.{Fits, Covers, Attaches}
 use Rattle.sdcl_prop.specs.Seeing.{FitsOver}
 use Rattle.sdcl_base.proofs.In.{in_union_cases}
 use Rattle.sdcl_outer.proofs.Learning.{within_added}
 use Rattle.sdcl_outer.proofs.Seen.{Last, last_of}
-use Rattle.sdcl_outer.proofs.Engines.{fits_joined, covers_joined, joined_clause}
+use Rattle.sdcl_prop.proofs.Changing.{fits_joined, covers_joined}
+use Rattle.sdcl_outer.proofs.Engines.{joined_clause}
 use Rattle.sdcl_outer.proofs.Joining.{Joining, joining, clause_ranged, clause_long}
 use Rattle.sdcl_outer.proofs.search.Search.join.Goals as goal
 
@@ -61,7 +62,7 @@ pub attach-requires-clause-fits : goal.attach-requires-clause-fits
 attach-requires-clause-fits c =
     let s = c.args.self.now in
     subst (λ (x : Slots). Fits s.engine x) (sym (ap (λ st. st.slots) c.in_ok-id.ensures.ok.1))
-    (fits_joined s.engine s.store.slots (firsts c.args.clause.now) c.requires.ready.covers)
+    (fits_joined s.engine s.store.slots (firsts c.args.clause.now) c.requires.ready.covers.fits)
 
 pub attach-requires-clause-within : goal.attach-requires-clause-within
 attach-requires-clause-within c l i =
@@ -94,7 +95,7 @@ returns c =
     record {
       ready = record {
         covers = subst (Covers c.attach.new.self) (sym slots)
-            (covers_joined s.engine c.attach.new.self s.store.slots d id.0 c.requires.ready.covers new c.in_ok-attach.ensures.ok (subst (Fits c.attach.new.self) slots c.attach.ensures.fits));
+            (covers_joined s.engine c.attach.new.self s.store.slots d c.requires.ready.covers (subst (Attaches s.engine c.attach.new.self) new c.in_ok-attach.ensures.ok) (subst (Fits c.attach.new.self) slots c.attach.ensures.fits));
         engine_same = c.in_ok-attach.ensures.ok.variables ∙ c.requires.ready.engine_same;
         trail_same = ap (λ (u : Levels). u.variables) trail ∙ c.requires.ready.trail_same;
         within = subst (WithinVariables s.variables) (sym c.in_ok-id.ensures.live)
