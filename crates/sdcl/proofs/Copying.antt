@@ -22,7 +22,7 @@ all_of P (y ∷ xs) h (suc k) d i = all_of P xs (λ x j. h x (inr j)) k d (omega
 pub clause_covered : (m : ℕ) (slots : Slots) (i : ℕ) → WithinVariables m (live slots) → is_alive slots i ≡ true → Within m (clause_of slots i)
 clause_covered m slots i w a =
     let there : In (live slots) (clause_of slots i) = subst (λ (f : List Clause). In f (clause_of slots i)) (sym (live_split slots i a))
-        (in_append_right (live_before slots i) (clause_of slots i ∷ live_behind slots i) (clause_of slots i) (inl refl)) in
+    (in_append_right (live_before slots i) (clause_of slots i ∷ live_behind slots i) (clause_of slots i) (inl refl)) in
     all_of (λ (l : Literal). l.var ≤ m) (clause_of slots i) (λ l j. (w (clause_of slots i) l there j).1)
 
 pub within_more : (n m : ℕ) (f : List Clause) → WithinVariables n f → n ≤ m → WithinVariables m f
