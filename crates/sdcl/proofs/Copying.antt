@@ -1,5 +1,7 @@
 -- The clauses of a formula in a checker's database.
 use Rattle.std.proofs.Common.{◌≡◌, ◌∙◌, ◌≤◌, ◌<◌, ℕ, zero, suc, ◌+◌, true, false, All, is_some, append-nil, List, [], ◌∷◌, ◌++◌, length, take, Option, Some, None, refl, sym, ap, subst, arith, inl, inr}
+use Rattle.std.specs.Prelude.{Result, Ok, Err, OnOk}
+use Rattle.sdcl_base.specs.declared.lit.NoMemory.{NoMemory}
 use Rattle.std.proofs.lemmas.Bool.{true≢false, false≢true}
 use Rattle.std.proofs.Math.Seq.{take-suc}
 use Rattle.sdcl_base.specs.Literal.{Literal, Clause}
@@ -37,6 +39,11 @@ copies_one slots b d n c a e h k = record {
       ∙ ap (λ (o : Option Clause). b.clauses ++ live (o ∷ [])) (sym (alive_some slots n a));
   covered = ap (λ (x : Base). x.covered) k;
 }
+
+pub copies_added : (r : Result Unit NoMemory) (slots : Slots) (b d : Base) (n : ℕ) (c : Clause) → is_alive slots n ≡ true → c ≡ clause_of slots n → no_repeats c ≡ true
+    → OnOk r (d ≡ record { covered = b.covered; clauses = b.clauses ++ firsts c ∷ [] }) → OnOk r (Copies slots b d n)
+copies_added (Ok u) slots b d n c a e h k = copies_one slots b d n c a e h k
+copies_added (Err x) slots b d n c a e h k = tt
 
 none_there : (o : Option Clause) → is_some o ≡ false → live (o ∷ []) ≡ []
 none_there None h = refl
