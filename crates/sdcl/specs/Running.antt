@@ -1,7 +1,13 @@
 -- What each command means: one row a command.
-use Rattle.std.specs.Prelude.{false, List, [], Option, Some, None}
+use Rattle.std.specs.Prelude.{◌≡◌, false, List, [], Option, Some, None}
 use Rattle.std.specs.declared.string.String.{String}
 use Rattle.std.specs.declared.alloc.Global.{Global}
+use Rattle.sdcl_base.specs.declared.lit.TheConstants.{MAX_VARIABLE}
+use Rattle.sdcl_dimacs.specs.declared.parser.TheConstants.{MOST_CLAUSES}
+use Rattle.sdcl.specs.declared.loading.TheConstants.{FORMULA_LIMIT}
+use Rattle.sdcl.specs.declared.judging.TheConstants.{PROOF_LIMIT}
+use Rattle.sdcl.specs.declared.solving.TheConstants.{BUDGET}
+use Rattle.sdcl.specs.declared.texts.TheConstants.{WORDS_ON_LINE}
 use Rattle.sdcl.specs.Commands.{Plan, Solve, Check, plan_of}
 use Rattle.sdcl.specs.Starting.{MadeNothing}
 use Rattle.sdcl.specs.Meaning.{Meaning}
@@ -21,3 +27,9 @@ meaning_of (Some (Check names)) = checking names
 -- what the words mean
 abbrev pub meant : List (String Global) → Meaning
 meant words = meaning_of (plan_of words)
+
+-- the limits are these numbers
+abbrev pub AreLimits : Type 0
+AreLimits =
+    (MAX_VARIABLE ≡ 4194303) × (MOST_CLAUSES ≡ 16777215) × (FORMULA_LIMIT ≡ 134217728) × (PROOF_LIMIT ≡ 536870912)
+    × (BUDGET ≡ 10000000) × (WORDS_ON_LINE ≡ 12)

@@ -3,7 +3,7 @@ ghost use Rattle.std.specs.Prelude.{◌≡◌, Some};
 ghost use Rattle.sdcl.specs.Commands.{plan_in, AreApart};
 ghost use Rattle.sdcl.specs.Starting.{IsFresh};
 ghost use Rattle.sdcl.specs.Meaning.{Performs, RunEnds, Completes, KeepsRest, StaysCalm};
-ghost use Rattle.sdcl.specs.Running.{meant, meaning_of};
+ghost use Rattle.sdcl.specs.Running.{AreLimits, meant, meaning_of};
 
 use crate::checking::check;
 use crate::commands::{Command, command_of};
@@ -24,6 +24,7 @@ pub fn run<W: World>(alloc: Global, world: &mut W, words: &[String]) -> Status
     ensures keeps { KeepsRest (meant words.now) (W.seen world.old) (W.seen world.new) }
     ensures calm { StaysCalm (meant words.now) (W.seen world.old) (W.seen world.new) }
     ensures follows { W.follows world.old world.new }
+    ensures limits { AreLimits }
 {
     match attempt(alloc, world, words) {
         Ok(verdict) => match print(alloc, world, &verdict) {
