@@ -12,7 +12,7 @@ use Rattle.sdcl_store.specs.Slots.{Slots, slot_at, is_alive, clause_of, live, li
 use Rattle.sdcl_store.proofs.Slots.{live_append, live_split, alive_some}
 use Rattle.sdcl_rup.specs.Base.{Base}
 use Rattle.sdcl_rup.specs.Held.{Within}
-use Rattle.sdcl_outer.proofs.Learning.{firsts_distinct}
+use Rattle.sdcl_inner.proofs.Distinct.{firsts_distinct}
 use Rattle.sdcl.specs.Judging.{Copies}
 
 all_of : {A : Type 0} (P : A → Type 0) (xs : List A) → ((x : A) → In xs x → P x) → All P xs

@@ -84,7 +84,7 @@ or_swap true false h = refl
 or_swap false true h = refl
 or_swap false false h = h
 
-named_sign : (lits : Clause) (x : ℕ) (b : Bool) → names lits (pos_lit x) ≡ true → names lits (record { var = x; positive = b }) ≡ true
+pub named_sign : (lits : Clause) (x : ℕ) (b : Bool) → names lits (pos_lit x) ≡ true → names lits (record { var = x; positive = b }) ≡ true
 named_sign lits x true h = h
 named_sign lits x false h = or_swap (has lits (pos_lit x)) (has lits (neg_lit x)) h
 

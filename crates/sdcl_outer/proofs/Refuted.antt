@@ -21,45 +21,11 @@ use Rattle.sdcl_trail.specs.Levels.{Levels, decisions, IsSound}
 use Rattle.sdcl_prop.specs.Seeing.{levels_seen, FitsOver}
 use Rattle.sdcl_prop.proofs.Deciding.{decisions_count, decisions_distinct}
 use Rattle.sdcl_outer.specs.Outcome.{IsNewClause, AreDecisions, AreRefuted}
-use Rattle.sdcl_outer.proofs.Seen.{Last, last_of, fits_opens}
-use Rattle.sdcl_outer.proofs.Joining.{decided_on, clause_ranged}
+use Rattle.sdcl_inner.proofs.Seen.{fits_opens}
+use Rattle.sdcl_inner.proofs.Joining.{decided_on, clause_ranged}
+use Rattle.sdcl_inner.proofs.Refuted.{clause_new as blocked_new}
 
 -- ---- it is new
-
--- no clause of the formula is part of it
-no_part : (f : List Clause) (levels : List Level) (xs : Clause) (x : Literal) (e : Clause) → trail_fits f (xs ++ (x ∷ [])) levels ≡ true → In f e → ((m : Literal) → In e m → In (xs ++ (x ∷ [])) (negated m)) → ⊥
-no_part f levels xs x e t i h =
-    let l : Lower f levels xs x = below f levels xs x [] t in
-    elim (cases_Bool (has e (negated x))) [
-      | inl y ↦
-          let r : In (closure f xs) (negated x) = unit_reached f xs e (negated x) (any_in (same_set e) f e i (same_set_refl e)) (has_in e (negated x) y) (λ m j n.
-          elim (in_append_cases xs (x ∷ []) (negated m) (h m j)) [
-            | inl k ↦ closure_holds f xs (negated m) k
-            | inr (inl q) ↦ absurd (n (sym (negated_negated m) ∙ ap negated q))
-            | inr (inr k) ↦ absurd k
-          ]) in
-          true≢false (sym (or_right (has (closure f xs) x) (has (closure f xs) (negated x)) (in_has (closure f xs) (negated x) r)) ∙ l.unassigned)
-      | inr y ↦
-          true≢false (sym (clause_refuted f xs e i (λ k j.
-          let q : (m : Literal) × In e m × (k ≡ negated m) = in_map_from negated e k j in
-          elim (in_append_cases xs (x ∷ []) (negated q.0) (h q.0 q.1)) [
-            | inl z ↦ closure_holds f xs k (subst (In xs) (sym q.2) z)
-            | inr (inl z) ↦ absurd (absent e (negated x) y (subst (In e) (sym (negated_negated q.0) ∙ ap negated z) q.1))
-            | inr (inr z) ↦ absurd z
-          ])) ∙ l.consistent)
-    ]
-
-held : (ds : Clause) (m : Literal) → In (complements ds) m → In ds (negated m)
-held ds m i =
-    let q : (l : Literal) × In ds l × (m ≡ negated l) = in_map_from negated ds m i in
-    subst (In ds) (sym (ap negated q.2 ∙ negated_negated q.0)) q.1
-
-decided_new : (f : List Clause) (xs : Clause) (x : Literal) (levels : List Level) → trail_fits f (xs ++ (x ∷ [])) levels ≡ true → is_new f (complements (xs ++ (x ∷ []))) ≡ true
-decided_new f xs x levels t =
-    let ds : Clause = xs ++ (x ∷ []) in
-    let on : (m : Literal) → In (complements ds) m → In (on_trail levels) (negated m) = λ m i. decisions_on f ds levels t (negated m) (held ds m i) in
-    new_from f (complements ds) (λ l i j. no_repeat_pair (on_trail levels) (trail_once f ds levels t) (negated l) (on l i) (on (negated l) j))
-    (λ e i s. no_part f levels xs x e t i (λ m j. held ds m (s m j)))
 
 is_new_clause : (n : ℕ) (f : List Clause) (c : Clause) → is_new f c ≡ true → no_repeats c ≡ true → ((m : Literal) → In c m → (1 ≤ m.var) × (m.var ≤ n)) → IsNewClause n f c
 is_new_clause n f [] h d k = tt
@@ -67,11 +33,8 @@ is_new_clause n f (l ∷ ls) h d k = (h, (d, k))
 
 pub clause_new : (slots : Slots) (t : Levels) → FitsOver slots t → IsSound t → 0 < length t.starts → IsNewClause t.variables (live slots) (complements (decisions t))
 clause_new slots t h s n =
-    let z : Last t = last_of slots t h n in
-    is_new_clause t.variables (live slots) (complements (decisions t))
-    (subst (λ (ds : Clause). is_new (live slots) (complements ds) ≡ true) (sym z.parts)
-    (decided_new (live slots) z.earlier z.decision (levels_seen slots t) (subst (λ (ds : Clause). trail_fits (live slots) ds (levels_seen slots t) ≡ true) z.parts h)))
-    (decisions_distinct t s.apart) (clause_ranged slots t (complements (decisions t)) h s refl)
+    is_new_clause t.variables (live slots) (complements (decisions t)) (blocked_new slots t h n) (decisions_distinct t s.apart)
+    (clause_ranged slots t (complements (decisions t)) h s refl)
 
 -- ---- the decisions
 
@@ -85,13 +48,6 @@ are_decisions n f levels xs (y ∷ ys) t r =
 
 pub some_decision : (slots : Slots) (t : Levels) → FitsOver slots t → 0 < length t.starts → decisions t ≢ []
 some_decision slots t h n e = omega (arith, decisions_count t (fits_opens slots t h), ap length e, n)
-
-none_of : (c : Clause) → length c ≡ 0 → c ≡ []
-none_of [] h = refl
-none_of (l ∷ c) h = absurd (omega (arith, h))
-
-pub no_decision : (slots : Slots) (t : Levels) → FitsOver slots t → length t.starts ≡ 0 → decisions t ≡ []
-no_decision slots t h n = none_of (decisions t) (decisions_count t (fits_opens slots t h) ∙ n)
 
 pub decisions_refuted : (slots : Slots) (t : Levels) → FitsOver slots t → IsSound t → 0 < length t.starts → refutes (live slots) (decisions t) ≡ true → AreRefuted t.variables (live slots) (decisions t)
 decisions_refuted slots t h s n r = record {

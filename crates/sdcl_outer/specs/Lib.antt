@@ -1,4 +1,4 @@
+pub mod Descending
 pub mod Errors
 pub mod Outcome
-pub mod Searching
 pub mod Telling

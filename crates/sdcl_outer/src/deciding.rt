@@ -1,8 +1,8 @@
 //! The next decision.
-ghost use Rattle.std.specs.Prelude.{◌≡◌, ◌≤◌, ◌<◌, ℕ, true, false, MatchOption};
+ghost use Rattle.std.specs.Prelude.{◌≡◌, ◌≤◌, ◌<◌, ℕ, true, false, MatchOption, length};
 ghost use Rattle.sdcl_base.specs.Literal.{names, pos_lit};
 ghost use Rattle.sdcl_base.specs.declared.lit.TheConstants.{MAX_VARIABLE};
-ghost use Rattle.sdcl_outer.specs.Searching.{AllAssigned};
+ghost use Rattle.sdcl_outer.specs.Descending.{AllAssigned};
 
 use sdcl_base::Lit;
 use sdcl_trail::Trail;
@@ -10,21 +10,21 @@ use sdcl_trail::Trail;
 /// The positive literal of a variable that is not assigned: the lowest from that of the last decision on, below which
 /// all are assigned where each decision was made so.
 pub fn next_decision(trail: &Trail, variables: u32) -> Option<Lit>
-    requires same { trail.now.variables ≡ variables }
-    requires small { variables ≤ MAX_VARIABLE }
+    requires { trail.now.variables ≡ variables }
     ensures { MatchOption result (AllAssigned variables trail.now.lits) (λ l. (1 ≤ l.var) × (l.var ≤ variables) × (names trail.now.lits l ≡ false)) }
 {
-    match lowest_from(trail, last_decided(trail), variables) {
+    let level = trail.level();
+    match lowest_from(trail, variable_decided(trail, level), variables) {
         Some(l) => Some(l),
         None => lowest_from(trail, 1, variables),
     }
 }
 
-// The variable of the last decision, and 1 where there is none.
-fn last_decided(trail: &Trail) -> u32
+// The variable that a level decides, and 1 for level 0.
+fn variable_decided(trail: &Trail, level: u32) -> u32
+    requires there { level ≤ length trail.now.starts }
     ensures low { 1 ≤ result }
 {
-    let level = trail.level();
     if level == 0 {
         return 1;
     }

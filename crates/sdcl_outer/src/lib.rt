@@ -2,13 +2,10 @@
 //! and a learned clause at each conflict.
 #![tactic(auto)]
 
-mod attaching;
-mod blocking;
 mod deciding;
-pub mod search;
+mod descending;
 pub mod solving;
 #[cfg(test)]
 mod tests;
-mod values;
 
 pub use solving::{Answer, Options, SolveError, solve};

@@ -10,13 +10,14 @@ ghost use Rattle.sdcl_store.specs.Stores.{clauses_in};
 ghost use Rattle.sdcl_trail.specs.Levels.{decisions};
 ghost use Rattle.sdcl_outer.specs.Telling.{IsTold, MayBeTold};
 ghost use Rattle.sdcl_outer.specs.Outcome.{Answers, Breaks};
-ghost use Rattle.sdcl_outer.specs.Searching.{IsInOrder, Joins};
+ghost use Rattle.sdcl_inner.specs.Searching.{state_of, IsInOrder, Joins};
 ghost use Rattle.sdcl_outer.specs.Errors.{error_of};
 
-use crate::blocking::blocking_clause;
-use crate::search::Search;
-use crate::values::values_of;
+use crate::descending::descend;
 use sdcl_base::Assignment;
+use sdcl_inner::blocking::blocking_clause;
+use sdcl_inner::search::Search;
+use sdcl_inner::values::values_of;
 use sdcl_io::{Failed, ProofOut};
 use sdcl_store::Store;
 use std::alloc::Global;
@@ -86,7 +87,7 @@ pub fn solve<S: ProofOut>(
     let mut learned: u64 = 0;
     let mut search = Search::new(alloc, store, variables).map_err(|_| SolveError::NoMemory)?;
     // the store has the formula's clauses and those of the additions that were told, `learned` in all
-    'learning: while search.descend() {
+    'learning: while descend(&mut search) {
         if search.trail.level() == 0 {
             sink.add(&[], &[])?;
             return Ok(Answer::Refuted);
@@ -102,17 +103,21 @@ pub fn solve<S: ProofOut>(
 }
 
 // Tells the sink the clause of the complements of the decisions, adds it to the store, and goes back a level.
-fn learn<S: ProofOut>(alloc: Global, search: &mut Search, sink: &mut S) -> Result<(), SolveError>
+fn learn<S: ProofOut>(
+    alloc: Global,
+    search: &mut Search<Store>,
+    sink: &mut S,
+) -> Result<(), SolveError>
     requires ready { S.ready sink.old }
-    requires in_order { IsInOrder search.old }
+    requires in_order { IsInOrder (state_of (λ s. s.slots) search.old) }
     requires decided { 0 < length search.old.trail.starts }
-    requires room { length search.old.store.slots < 4294967295 }
+    requires room { length search.old.clauses.slots < 4294967295 }
     ensures follows { S.follows sink.old sink.new }
     ensures later { S.faults sink.old ≤ S.faults sink.new }
     ensures aside { S.aside sink.new ≡ S.aside sink.old }
     ensures ready { OnOk result (S.ready sink.new) }
     ensures fault { IsErrOf result SolveError.WriteFault → Rose (S.faults sink.old) (S.faults sink.new) }
-    ensures joins { OnOk result (Joins search.old search.new) }
+    ensures joins { OnOk result (Joins (state_of (λ s. s.slots) search.old) (state_of (λ s. s.slots) search.new)) }
     ensures told { OnOk result (IsTold S.tells sink.old sink.new (Add (complements (decisions search.old.trail)) ∷ []) None) }
     ensures torn { OnErr result (MayBeTold S.tells sink.old sink.new (Add (complements (decisions search.old.trail)))) }
 {
