@@ -40,5 +40,5 @@ unfolding NewSteps
 formed n f [] b h = tt
 formed n f (s ∷ ss) b h = (formed_step n f s b h.0, tt, formed n (apply honoured f s) ss b h.1)
 
-pub read_back : (n : ℕ) (f : List Clause) (ss : List Step) → n ≤ MAX_VARIABLE → NewSteps n f ss → judge honoured f ss End ≡ Verified → length (text_of ss) ≤ PROOF_LIMIT → judgement f (text_of ss) ≡ Verified
+pub read_back : (n : ℕ) (f : List Clause) (ss : List Step) → n ≤ MAX_VARIABLE → NewSteps n f ss → judge honoured f ss End ≡ Verified → length (text_of ss) ≤ PROOF_LIMIT → judgement Pr f (text_of ss) ≡ Verified
 read_back n f ss b h v l = ap (λ t. judge honoured f t.steps t.ending) (round_trip Pr PROOF_LIMIT ss (formed n f ss b h) l) ∙ v

@@ -6,6 +6,8 @@ use Rattle.sdcl_io.specs.declared.world.OutRole.TheVariants as output
 use Rattle.sdcl_io.specs.World.{Seen}
 use Rattle.sdcl_io.specs.Step.{Step, Ending, Judgement, Ended}
 use Rattle.sdcl_dimacs.specs.FormulaText.{FormulaText, Accepted, FormulaFault, FormulaOver, formula_text}
+use Rattle.sdcl_proof.specs.declared.step.Dialect.{Dialect}
+use Rattle.sdcl_proof.specs.declared.step.Dialect.TheVariants as dialect
 use Rattle.sdcl_proof.specs.Files.{HoldsSteps}
 use Rattle.sdcl_prcheck.specs.declared.verdict.Verdict.{Verdict as Found}
 use Rattle.sdcl_prcheck.specs.declared.verdict.Verdict.TheVariants as found
@@ -14,11 +16,11 @@ use Rattle.sdcl.specs.declared.verdict.Verdict.{Verdict}
 use Rattle.sdcl.specs.declared.refusal.Refusal.TheVariants.{Usage}
 use Rattle.sdcl.specs.Starting.{IsFresh}
 use Rattle.sdcl.specs.Meaning.{Performs}
-use Rattle.sdcl.specs.Commands.{Names, Plan, Solve, Check}
+use Rattle.sdcl.specs.Commands.{Names, Plan, Solve, Check, Drat}
 use Rattle.sdcl.specs.Loading.{StandsFor, IsSoundFormula, FormulaReadOut, formula_in}
 use Rattle.sdcl.specs.Judging.{JudgedAs, IsReadTo, judgement, judgement_in}
 use Rattle.sdcl.specs.Solving.{HoldsProof, IsSolved, solving}
-use Rattle.sdcl.specs.Checking.{IsJudgedAs, IsSoundProof, IsVerified, IsChecked, checking, proof_in}
+use Rattle.sdcl.specs.Checking.{IsJudgedAs, IsSoundProof, IsVerified, IsChecked, checking_in, proof_in}
 use Rattle.sdcl.specs.Running.{meaning_of, refusing}
 use Rattle.sdcl.proofs.Roles.{proof_not_out, proof_not_err}
 use Rattle.sdcl.proofs.Streams.{OnlyStreams, OnlyReads, made_nothing, read_nothing_made, keeps_reading}
@@ -51,20 +53,20 @@ verdict_is_no_ending : (v : Found) (ending : Ending) → judgement_in v ≡ Ende
 verdict_is_no_ending found.Verified ending e = cc
 verdict_is_no_ending (found.NotVerified k) ending e = cc
 
-one_judgement : (told : Option (List ℕ)) (proof : List ℕ) (f : List Clause) (i j : Judgement) → told ≡ Some proof → judgement f proof ≡ i → JudgedAs f told j → i ≡ j
-one_judgement None proof f i j e h k = absurd cc
-one_judgement (Some bytes) proof f i j e h k = let q : bytes ≡ proof = cc in sym h ∙ subst (λ x. judgement f x ≡ j) q k
+one_judgement : (d : Dialect) (told : Option (List ℕ)) (proof : List ℕ) (f : List Clause) (i j : Judgement) → told ≡ Some proof → judgement d f proof ≡ i → JudgedAs d f told j → i ≡ j
+one_judgement d None proof f i j e h k = absurd cc
+one_judgement d (Some bytes) proof f i j e h k = let q : bytes ≡ proof = cc in sym h ∙ subst (λ x. judgement d f x ≡ j) q k
 
-not_ended : (names : Names) (s : Seen) (ending : Ending) → IsSoundProof names s → IsJudgedAs names s (Ended ending) → ⊥
-not_ended names s ending d h =
+not_ended : (x : Dialect) (names : Names) (s : Seen) (ending : Ending) → IsSoundProof x names s → IsJudgedAs x names s (Ended ending) → ⊥
+not_ended x names s ending d h =
     let f : IsSoundFormula names.formula s = d.formula in
     let same : f.clauses ≡ h.clauses =
     accepted_same f.variables h.variables f.clauses h.clauses (one_meaning (s.file names.formula) f.bytes (Accepted f.variables f.clauses) (Accepted h.variables h.clauses) f.told f.text h.text) in
     verdict_is_no_ending d.found ending
-    (one_judgement (s.file names.proof) d.bytes h.clauses (judgement_in d.found) (Ended ending) d.told (subst (λ g. judgement g d.bytes ≡ judgement_in d.found) same d.judged) h.judged)
+    (one_judgement x (s.file names.proof) d.bytes h.clauses (judgement_in d.found) (Ended ending) d.told (subst (λ g. judgement x g d.bytes ≡ judgement_in d.found) same d.judged) h.judged)
 
-lawful_proof : (names : Names) → IsLawfulInput (proof_in names)
-lawful_proof names = record { faulty = λ s kind offset d h. not_ended names s _ d h; over = λ s limit d h. not_ended names s _ d h.1 }
+lawful_proof : (x : Dialect) (names : Names) → IsLawfulInput (proof_in x names)
+lawful_proof x names = record { faulty = λ s kind offset d h. not_ended x names s _ d h; over = λ s limit d h. not_ended x names s _ d h.1 }
 
 -- ---- what stays while a line is printed or said
 
@@ -104,18 +106,18 @@ solves names s t u v w h = record {
   read_out = λ tells. subst (FormulaReadOut (s.file names.formula)) (sym (w.inputs input.Formula)) (h.read_out tells);
 }
 
-verified : (names : Names) (s t u : Seen) (f : List Clause) (steps : List Step) → OnlyStreams t u → IsVerified names s t f steps → IsVerified names s u f steps
-verified names s t u f steps w h = record { unsatisfiable = h.unsatisfiable; read_to = subst (IsReadTo steps (s.file names.proof)) (sym (w.inputs input.Proof)) h.read_to }
+verified : (d : Dialect) (names : Names) (s t u : Seen) (f : List Clause) (steps : List Step) → OnlyStreams t u → IsVerified d names s t f steps → IsVerified d names s u f steps
+verified d names s t u f steps w h = record { unsatisfiable = h.unsatisfiable; read_to = subst (IsReadTo d steps (s.file names.proof)) (sym (w.inputs input.Proof)) h.read_to }
 
-checks : (names : Names) (s t u : Seen) (v : Verdict) → OnlyStreams t u → IsChecked names s t v → IsChecked names s u v
-checks names s t u v w h = record {
+checks : (d : Dialect) (names : Names) (s t u : Seen) (v : Verdict) → OnlyStreams t u → IsChecked d names s t v → IsChecked d names s u v
+checks d names s t u v w h = record {
   found = h.found;
   is = h.is;
   judged = h.judged;
   steps = h.steps;
   valid = h.valid;
   bears = h.bears;
-  verified = λ e. verified names s t u h.judged.clauses h.steps w (h.verified e);
+  verified = λ e. verified d names s t u h.judged.clauses h.steps w (h.verified e);
   read_out = subst (FormulaReadOut (s.file names.formula)) (sym (w.inputs input.Formula)) h.read_out;
   made_nothing = made_nothing w h.made_nothing;
 }
@@ -130,12 +132,12 @@ solve_lawful names = record {
   inputs = (lawful_formula names.formula, tt);
 }
 
-check_lawful : (names : Names) → IsLawful (checking names)
-check_lawful names = record {
-  gives = checks names;
+check_lawful : (d : Dialect) (names : Names) → IsLawful (checking_in d names)
+check_lawful d names = record {
+  gives = checks d names;
   leaves = λ s t u w h. made_nothing w h;
   left = λ s t v h. h.made_nothing;
-  inputs = (lawful_formula names.formula, (lawful_proof names, tt));
+  inputs = (lawful_formula names.formula, (lawful_proof d names, tt));
 }
 
 refusing_lawful : IsLawful refusing
@@ -144,7 +146,8 @@ refusing_lawful = record { gives = λ s t u v w h. h; leaves = λ s t u w h. mad
 pub lawful : (asked : Option Plan) → IsLawful (meaning_of asked)
 lawful None = refusing_lawful
 lawful (Some (Solve names)) = solve_lawful names
-lawful (Some (Check names)) = check_lawful names
+lawful (Some (Check names)) = check_lawful dialect.Pr names
+lawful (Some (Drat names)) = check_lawful dialect.Drat names
 
 -- ---- words that ask for no command
 

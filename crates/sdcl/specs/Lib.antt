@@ -10,4 +10,5 @@ pub mod Proving
 pub mod Judging
 pub mod Solving
 pub mod Checking
+pub mod Drat
 pub mod Running

@@ -8,11 +8,12 @@ use Rattle.sdcl.specs.declared.loading.TheConstants.{FORMULA_LIMIT}
 use Rattle.sdcl.specs.declared.judging.TheConstants.{PROOF_LIMIT}
 use Rattle.sdcl.specs.declared.solving.TheConstants.{BUDGET}
 use Rattle.sdcl.specs.declared.texts.TheConstants.{WORDS_ON_LINE}
-use Rattle.sdcl.specs.Commands.{Plan, Solve, Check, plan_of}
+use Rattle.sdcl.specs.Commands.{Plan, Solve, Check, Drat, plan_of}
 use Rattle.sdcl.specs.Starting.{MadeNothing}
 use Rattle.sdcl.specs.Meaning.{Meaning}
 use Rattle.sdcl.specs.Solving.{solving}
 use Rattle.sdcl.specs.Checking.{checking}
+use Rattle.sdcl.specs.Drat.{checking_drat}
 
 -- words that ask for no command: nothing is read, made or found
 abbrev pub refusing : Meaning
@@ -23,6 +24,7 @@ abbrev pub meaning_of : Option Plan → Meaning
 meaning_of None = refusing
 meaning_of (Some (Solve names)) = solving names
 meaning_of (Some (Check names)) = checking names
+meaning_of (Some (Drat names)) = checking_drat names
 
 -- what the words mean
 abbrev pub meant : List (String Global) → Meaning

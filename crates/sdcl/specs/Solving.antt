@@ -5,6 +5,7 @@ use Rattle.sdcl_base.specs.Truth.{Unsatisfiable}
 use Rattle.sdcl_io.specs.declared.world.InRole.TheVariants as input
 use Rattle.sdcl_io.specs.World.{Seen}
 use Rattle.sdcl_io.specs.Step.{Step, Verified}
+use Rattle.sdcl_proof.specs.declared.step.Dialect.TheVariants.{Pr}
 use Rattle.sdcl_proof.specs.Lines.{text_of}
 use Rattle.sdcl_dimacs.specs.FormulaText.{Accepted}
 use Rattle.sdcl_outer.specs.Outcome.{Ends as Concludes}
@@ -39,7 +40,7 @@ pub record HoldsProof (names : Names) (s t : Seen) : Type 0 where
 -- the steps refute the clauses: no total assignment meets these, and a checker of the written text finds it verified
 pub record AreRefutation (clauses : List Clause) (steps : List Step) : Type 0 where
   pub unsatisfiable : Unsatisfiable clauses
-  pub checked : length (text_of steps) ≤ PROOF_LIMIT → judgement clauses (text_of steps) ≡ Verified
+  pub checked : length (text_of steps) ≤ PROOF_LIMIT → judgement Pr clauses (text_of steps) ≡ Verified
 
 -- what a verdict rests on: the proof holds whole lines alone, whose steps bear the answer out, and the formula was read out
 pub record IsSolved (names : Names) (s t : Seen) (v : Verdict) : Type 0 where

@@ -9,9 +9,11 @@ pub enum Command<'w> {
     Solve { formula: &'w str, proof: &'w str },
     /// Check the proof of the formula.
     Check { formula: &'w str, proof: &'w str },
+    /// Check the DRAT proof of the formula.
+    Drat { formula: &'w str, proof: &'w str },
 }
 
-/// The command that the words are: `solve` and two different names, or `check` and two names.
+/// The command that the words are: `solve` and two different names, or `check` or `drat` and two names.
 pub fn command_of(words: &[String]) -> Option<Command<'_>>
     ensures plan { MatchOption result (plan_of words.now ≡ None)
         (λ c. plan_of words.now ≡ Some (plan_in c)) }
@@ -25,6 +27,7 @@ pub fn command_of(words: &[String]) -> Option<Command<'_>>
     match command.as_str() {
         "solve" if formula != proof => Some(Command::Solve { formula, proof }),
         "check" => Some(Command::Check { formula, proof }),
+        "drat" => Some(Command::Drat { formula, proof }),
         _ => None,
     }
 }

@@ -7,6 +7,7 @@ ghost use Rattle.sdcl.specs.Running.{AreLimits, meant, meaning_of};
 
 use crate::checking::check;
 use crate::commands::{Command, command_of};
+use crate::drat::drat;
 use crate::printing::print;
 use crate::refusal::{Refusal, complain};
 use crate::solving::solve;
@@ -58,5 +59,6 @@ fn perform<W: World>(alloc: Global, world: &mut W, command: Command<'_>) -> Resu
     match command {
         Command::Solve { formula, proof } => solve(alloc, world, formula, proof),
         Command::Check { formula, proof } => check(alloc, world, formula, proof),
+        Command::Drat { formula, proof } => drat(alloc, world, formula, proof),
     }
 }

@@ -3,6 +3,7 @@ ghost use Rattle.sdcl_io.specs.Memory.{seen_of};
 ghost use Rattle.sdcl.specs.Starting.{IsFresh};
 
 mod checking;
+mod drat;
 
 use crate::run::run;
 use sdcl_base::NoMemory;
@@ -76,6 +77,13 @@ fn only<'t>(formula: &'t [u8]) -> Files<'t> {
     Files {
         formula: Some(formula),
         proof: None,
+    }
+}
+
+fn both<'t>(formula: &'t [u8], proof: &'t [u8]) -> Files<'t> {
+    Files {
+        formula: Some(formula),
+        proof: Some(proof),
     }
 }
 
@@ -165,7 +173,7 @@ fn each_formula_gets_its_verdict_and_its_proof(rt: HostRuntime) -> Result<(), Fa
 
 #[test]
 fn other_words_are_a_usage_fault(rt: HostRuntime) -> Result<(), Fail> {
-    let lists: [&[&str]; 10] = [
+    let lists: [&[&str]; 12] = [
         &[],
         &["solve"],
         &["solve", "f"],
@@ -175,6 +183,8 @@ fn other_words_are_a_usage_fault(rt: HostRuntime) -> Result<(), Fail> {
         &["check", "f"],
         &["check", "f", "p", "q"],
         &["Check", "f", "p"],
+        &["drat", "f"],
+        &["drat", "f", "p", "q"],
         &["", "f", "p"],
     ];
     for list in lists {

@@ -1,5 +1,5 @@
 //! Whole runs of `check`.
-use crate::tests::{Files, THREE_PIGEONS, end, only};
+use crate::tests::{THREE_PIGEONS, both, end, only};
 use sdcl_io::{CallKind, InRole, OutRole};
 use std::test::Fail;
 
@@ -16,13 +16,6 @@ const FIVE_PIGEONS: &[u8] =
 const ONE_CLAUSE: &[u8] = b"p cnf 2 1\n1 2 0\n";
 
 const NO_CLAUSE: &[u8] = b"p cnf 1 0\n";
-
-fn both<'t>(formula: &'t [u8], proof: &'t [u8]) -> Files<'t> {
-    Files {
-        formula: Some(formula),
-        proof: Some(proof),
-    }
-}
 
 // A formula, a proof, and the status, the output and the line on standard error that they give.
 const CHECKS: [(&[u8], &[u8], u8, &[u8], &[u8]); 19] = [

@@ -1,4 +1,4 @@
-use Rattle.std.proofs.Common.{◌≡◌, ◌∙◌, ◌≤◌, ◌<◌, ◌++◌, ◌∷◌, [], List, length, arith, sym, subst, ap, rules}
+use Rattle.std.proofs.Common.{◌∙◌, ◌≤◌, ◌<◌, ◌++◌, ◌∷◌, [], List, length, arith, sym, subst, ap}
 use Rattle.sdcl_base.specs.Literal.{Clause}
 use Rattle.sdcl_store.specs.Slots.{live, slot_at}
 use Rattle.sdcl_store.specs.Stores.{clauses_in}
