@@ -11,7 +11,7 @@ use Rattle.sdcl_io.specs.Ahead.{ahead_of}
 use Rattle.sdcl_io.specs.Step.{Step, All, Fault, Over, Judgement, Verified, NotVerified, Ended, adds_empty, judge, ValidSteps}
 use Rattle.sdcl_proof.specs.declared.step.Dialect.{Dialect}
 use Rattle.sdcl_proof.specs.declared.fault.ProofError.{ProofError}
-use Rattle.sdcl_proof.specs.Faults.{kind_code}
+use Rattle.sdcl_proof.specs.Faults.{proof_kind_code}
 use Rattle.sdcl_proof.specs.ProofText.{ProofText, proof_text}
 use Rattle.sdcl_proof.specs.Stepping.{left_of, text_in}
 use Rattle.sdcl_prcheck.specs.declared.verdict.Verdict.{Verdict}
@@ -94,7 +94,7 @@ proof_over dialect name f = record {
 
 -- the refusal of a proof that could not be read
 abbrev pub refusal_of : ProofError → Refusal
-refusal_of (error.Grammar fault) = At place.Proof (trouble.Fault (kind_code fault.kind) fault.offset)
+refusal_of (error.Grammar fault) = At place.Proof (trouble.Fault (proof_kind_code fault.kind) fault.offset)
 refusal_of error.ReadFault = At place.Proof trouble.Read
 refusal_of error.TooLong = At place.Proof (trouble.Over PROOF_LIMIT)
 refusal_of error.NoMemory = Memory

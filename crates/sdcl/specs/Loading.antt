@@ -7,7 +7,7 @@ use Rattle.sdcl_io.specs.declared.world.InRole.TheVariants.{Formula}
 use Rattle.sdcl_io.specs.World.{Seen, OnlyRead, Calm}
 use Rattle.sdcl_store.specs.Stores.{clauses_in, IsWhole}
 use Rattle.sdcl_dimacs.specs.FormulaText.{FormulaText, Accepted, FormulaFault, FormulaOver, formula_text}
-use Rattle.sdcl_dimacs.specs.Faults.{kind_code}
+use Rattle.sdcl_dimacs.specs.Faults.{formula_kind_code}
 use Rattle.sdcl_dimacs.specs.Taking.{TakenToEnd}
 use Rattle.sdcl_dimacs.specs.declared.parser.TheConstants.{MOST_CLAUSES}
 use Rattle.sdcl_dimacs.specs.declared.fault.FormulaError.{FormulaError}
@@ -53,7 +53,7 @@ formula_in name = record {
 
 -- the refusal of a formula that could not be read
 abbrev pub refusal_for : FormulaError → Refusal
-refusal_for (error.Grammar fault) = At place.Formula (trouble.Fault (kind_code fault.kind) fault.offset)
+refusal_for (error.Grammar fault) = At place.Formula (trouble.Fault (formula_kind_code fault.kind) fault.offset)
 refusal_for error.ReadFault = At place.Formula trouble.Read
 refusal_for error.TooLong = At place.Formula (trouble.Over FORMULA_LIMIT)
 refusal_for error.NoMemory = Memory

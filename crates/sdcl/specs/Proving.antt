@@ -7,7 +7,7 @@ use Rattle.sdcl_io.specs.declared.world.OutRole.TheVariants.{Proof}
 use Rattle.sdcl_io.specs.World.{Seen, Later, Unchanged, Calm}
 use Rattle.sdcl_io.specs.Step.{Step, All, apply_all, ValidSteps}
 use Rattle.sdcl_proof.specs.Files.{HoldsSteps}
-use Rattle.sdcl_outer.specs.Outcome.{Ends as Concludes, NewSteps, IsNext, learned_in}
+use Rattle.sdcl_outer.specs.Outcome.{Ends as Concludes, NewSteps, MayComeNext, learned_in}
 use Rattle.sdcl_outer.specs.declared.solving.Answer.{Answer}
 use Rattle.sdcl.specs.declared.refusal.Place.TheVariants as place
 use Rattle.sdcl.specs.declared.refusal.Refusal.{Refusal}
@@ -29,7 +29,7 @@ pub record OnlyProof (name : List ℕ) (s t : Seen) : Type 0 where
 -- a lawful part of a proof: valid steps that add new clauses over n variables, no more than the budget has, and perhaps one that may come next
 pub record Lawful (n budget : ℕ) (f : List Clause) (steps : List Step) (torn : Option Step) : Type 0 where
   pub valid : ValidSteps f steps
-  pub next : IfSome torn (IsNext n (apply_all All f steps))
+  pub next : IfSome torn (MayComeNext n (apply_all All f steps))
   pub new : NewSteps n f steps
   pub affordable : learned_in steps ≤ budget
 

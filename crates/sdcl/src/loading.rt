@@ -5,7 +5,7 @@ ghost use Rattle.sdcl_io.specs.World.{Rose, OnlyRead, Calm};
 ghost use Rattle.sdcl_dimacs.specs.FormulaText.{formula_text};
 ghost use Rattle.sdcl_store.specs.Stores.{fresh, clauses_in, IsWhole};
 ghost use Rattle.sdcl_dimacs.specs.Within.{IsFormula};
-ghost use Rattle.sdcl_dimacs.specs.Answers.{Answers};
+ghost use Rattle.sdcl_dimacs.specs.Answers.{Reports};
 ghost use Rattle.sdcl.specs.declared.loading.TheConstants.{FORMULA_LIMIT};
 ghost use Rattle.sdcl.specs.Loading.{FormulaReadOut, Loads, refusal_for};
 

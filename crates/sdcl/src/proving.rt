@@ -2,7 +2,7 @@
 ghost use Rattle.std.specs.Prelude.{◌≡◌, ◌≤◌, ◌<◌, ◌+◌, IsTrue, IfOk, OnErr, IsErrOf, None, [], length};
 ghost use Rattle.sdcl_io.specs.declared.world.OutRole.TheVariants.{Proof};
 ghost use Rattle.sdcl_io.specs.World.{Rose};
-ghost use Rattle.sdcl_proof.specs.Files.{Onward, HoldsSteps};
+ghost use Rattle.sdcl_proof.specs.Files.{ProofOnward, HoldsSteps};
 ghost use Rattle.sdcl_base.specs.Sets.{WithinVariables};
 ghost use Rattle.sdcl_base.specs.declared.lit.TheConstants.{MAX_VARIABLE};
 ghost use Rattle.sdcl_store.specs.Stores.{clauses_in};
@@ -52,7 +52,7 @@ fn solve_into_file<W: World>(
     requires few { loaded.variables ≤ MAX_VARIABLE }
     requires within { WithinVariables loaded.variables (clauses_in loaded.store) }
     requires room { length loaded.store.slots + options.now.budget < 4294967294 }
-    ensures onward { Onward Proof (W.seen world.old) (W.seen world.new) }
+    ensures onward { ProofOnward Proof (W.seen world.old) (W.seen world.new) }
     ensures ok { IfOk result
         (λ a. FindsAnswer loaded.variables options.now.budget (clauses_in loaded.store) (W.seen world.new) a) }
     ensures err { OnErr result

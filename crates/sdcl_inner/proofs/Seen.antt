@@ -12,7 +12,7 @@ use Rattle.sdcl_base.proofs.SameSets.{same_set_refl}
 use Rattle.sdcl_store.specs.Slots.{Slots, is_alive, clause_of, live}
 use Rattle.sdcl_store.specs.Fitting.{Level, literals, justifies, levels_fit, trail_fits}
 use Rattle.sdcl_store.specs.Fitting as seen
-use Rattle.sdcl_store.specs.Trails.{on_trail, entry, Jumped, Complete}
+use Rattle.sdcl_store.specs.Trails.{on_trail, reasoned, Jumped, Complete}
 use Rattle.sdcl_store.specs.Trails as trails
 use Rattle.sdcl_store.proofs.Analysing.{Ordered, Reason, reason_from, ordered_append, justified_ordered, levels_ordered}
 use Rattle.sdcl_store.proofs.Fitting.{LevelFit, Fit, level_parts, fit_parts, no_trail, no_level, no_decision, trail_conflict, opened_alone}
@@ -117,7 +117,7 @@ decided_fits slots t l s few c n =
     let ls : List (List Entry) = levels_of t in
     let u : Levels = pushed (opened t) l None in
     let made : levels_of u ≡ ls ++ (e ∷ []) ∷ [] = levels_pushed (opened t) l None (sound_opened t s few) ∙ ap (λ (x : List (List Entry)). push x e) (levels_opened t s) ∙ push_opened ls e in
-    let shown : levels_seen slots u ≡ levels_seen slots t ++ (entry l None ∷ []) ∷ [] = ap (map (entries_seen slots)) made ∙ map-append (entries_seen slots) ls ((e ∷ []) ∷ []) in
+    let shown : levels_seen slots u ≡ levels_seen slots t ++ (reasoned l None ∷ []) ∷ [] = ap (map (entries_seen slots)) made ∙ map-append (entries_seen slots) ls ((e ∷ []) ∷ []) in
     let fit : trail_fits (live slots) (decisions t ++ l ∷ []) (levels_seen slots u) ≡ true =
     subst (λ (x : List Level). trail_fits (live slots) (decisions t ++ l ∷ []) x ≡ true) (sym shown)
     (opened_alone (live slots) (decisions t) (levels_seen slots t) l c (subst (λ (x : Clause). names x l ≡ false) (sym (seen_trail slots t)) n)) in
@@ -166,7 +166,7 @@ same_reason slots c (Some id) h = ap (λ (o : Option Clause). Some (unwrap_or o 
 same_entries : (slots : Slots) (c : Clause) (es : List Entry) → ((e : Entry) → In es e → IsHeld slots e.reason) → entries_seen (slots ++ Some c ∷ []) es ≡ entries_seen slots es
 same_entries slots c [] h = refl
 same_entries slots c (e ∷ es) h =
-    ap (λ (o : Option Clause). entry e.lit o ∷ entries_seen (slots ++ Some c ∷ []) es) (same_reason slots c e.reason (h e (inl refl)))
+    ap (λ (o : Option Clause). reasoned e.lit o ∷ entries_seen (slots ++ Some c ∷ []) es) (same_reason slots c e.reason (h e (inl refl)))
     ∙ ap (λ (x : Level). entry_seen slots e ∷ x) (same_entries slots c es (λ d i. h d (inr i)))
 
 in_front : (a b : List Entry) (e : Entry) → In a e → In (a ++ b) e
@@ -233,16 +233,16 @@ gone_back slots t c k id z s h own new b below =
     let cut : take (suc (length xs)) (levels_seen slots t) ≡ take (k + 1) (levels_seen slots t) = ap (λ n. take n (levels_seen slots t)) long in
     let lower : map (entries_seen joined) (take (k + 1) (levels_of t)) ≡ take (suc (length xs)) (levels_seen slots t) =
     sym (take-map (entries_seen joined) (k + 1) (levels_of t)) ∙ ap (λ (x : List Level). take (k + 1) x) (joined_seen slots c t h) ∙ sym cut in
-    let reason : entry_seen joined e ≡ entry p (Some c) =
-    ap (λ n. entry p (Some (clause_of joined n))) new ∙ ap (λ (o : Option Clause). entry p (Some (unwrap_or o []))) (get_or-append_seam slots (Some c) [] None) in
-    let shown : levels_seen joined (pushed (up_to k t) p (Some id)) ≡ trails.push (take (suc (length xs)) (levels_seen slots t)) (entry p (Some c)) =
+    let reason : entry_seen joined e ≡ reasoned p (Some c) =
+    ap (λ n. reasoned p (Some (clause_of joined n))) new ∙ ap (λ (o : Option Clause). reasoned p (Some (unwrap_or o []))) (get_or-append_seam slots (Some c) [] None) in
+    let shown : levels_seen joined (pushed (up_to k t) p (Some id)) ≡ trails.push (take (suc (length xs)) (levels_seen slots t)) (reasoned p (Some c)) =
     ap (map (entries_seen joined)) (levels_pushed (up_to k t) p (Some id) below ∙ ap (λ (x : List (List Entry)). push x e) (levels_back t k s high))
     ∙ seen_push joined (take (k + 1) (levels_of t)) e
     ∙ ap (λ (x : List Level). trails.push x (entry_seen joined e)) lower
     ∙ ap (λ (x : seen.Entry). trails.push (take (suc (length xs)) (levels_seen slots t)) x) reason in
     let fit : trail_fits (live joined) (take (length xs) (xs ++ d ∷ [])) (levels_seen joined (pushed (up_to k t) p (Some id))) ≡ true =
     subst (λ (x : List Level). trail_fits (live joined) (take (length xs) (xs ++ d ∷ [])) x ≡ true) (sym shown)
-    (subst (λ (g : List Clause). trail_fits g (take (length xs) (xs ++ d ∷ [])) (trails.push (take (suc (length xs)) (levels_seen slots t)) (entry p (Some c))) ≡ true) (sym (live_append slots (Some c ∷ []))) j.after) in
+    (subst (λ (g : List Clause). trail_fits g (take (length xs) (xs ++ d ∷ [])) (trails.push (take (suc (length xs)) (levels_seen slots t)) (reasoned p (Some c))) ≡ true) (sym (live_append slots (Some c ∷ []))) j.after) in
     record {
       free = subst (λ (x : Clause). names x p ≡ false) (ap (λ (x : List Level). on_trail x) cut ∙ back_lits slots t k s high) j.unassigned;
       fits = fits_over joined (pushed (up_to k t) p (Some id)) (take (length xs) (xs ++ d ∷ [])) fit;

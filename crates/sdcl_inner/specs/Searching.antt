@@ -12,8 +12,8 @@ use Rattle.sdcl_prop.specs.Seeing.{FitsOver, CompleteOver}
 use Rattle.sdcl_inner.specs.declared.search.Search.{Search}
 
 -- each level from 1 on begins with a literal, its decision
-abbrev pub Opens : Levels → Type 0
-Opens t = (k : ℕ) → 1 ≤ k → k < length (levels_of t) → level_at t k ≢ []
+abbrev pub LevelsDecide : Levels → Type 0
+LevelsDecide t = (k : ℕ) → 1 ≤ k → k < length (levels_of t) → level_at t k ≢ []
 
 -- the values of the variables up to n are those that the literals give
 pub record AreValues (n : ℕ) (lits : Clause) (values : List (Option Bool)) : Type 0 where

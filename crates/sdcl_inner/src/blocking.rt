@@ -5,7 +5,7 @@ ghost use Rattle.sdcl_base.specs.Marks.{no_repeats};
 ghost use Rattle.sdcl_prop.specs.Seeing.{FitsOver};
 ghost use Rattle.sdcl_store.specs.Slots.{Slots};
 ghost use Rattle.sdcl_trail.specs.Levels.{decisions};
-ghost use Rattle.sdcl_inner.specs.Searching.{Opens};
+ghost use Rattle.sdcl_inner.specs.Searching.{LevelsDecide};
 
 use sdcl_base::{Lit, NoMemory};
 use sdcl_trail::Trail;
@@ -13,7 +13,7 @@ use std::alloc::Global;
 
 /// The complements of the decisions, in the order of the levels.
 pub fn blocking_clause(alloc: Global, trail: &Trail) -> Result<Vec<Lit>, NoMemory>
-    requires { Opens trail.now }
+    requires { LevelsDecide trail.now }
     ensures value { IfOk result (λ c. c.items ≡ complements (decisions trail.now)) }
     ensures distinct { IfOk result (λ c. no_repeats c.items ≡ true) }
 {

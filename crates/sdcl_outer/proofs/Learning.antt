@@ -11,7 +11,7 @@ use Rattle.sdcl_base.specs.Redundancy.{rup}
 use Rattle.sdcl_base.proofs.In.{all_in, all_from, in_union_cases, negated_negated}
 use Rattle.sdcl_io.specs.Step.{Step, Add, All, End, Verified, adds_empty, is_empty, apply, apply_all, judge, rat_first, valid, ValidSteps}
 use Rattle.sdcl_io.proofs.Judging.{valid_verified}
-use Rattle.sdcl_outer.specs.Outcome.{is_plain, AreRefuted, Breaks, AddsNew, NewSteps, IsNext, learned_in}
+use Rattle.sdcl_outer.specs.Outcome.{is_plain, AreRefuted, Breaks, AddsNew, NewSteps, MayComeNext, learned_in}
 use Rattle.sdcl_outer.specs.Telling.{IsTold, MayBeTold}
 use Rattle.sdcl_base.specs.Literal.{Literal, Clause, negated, has, union, complements}
 use Rattle.sdcl_base.specs.Sets.{In, WithinVariables}
@@ -198,7 +198,7 @@ unfolding ValidSteps NewSteps
 breaks_at_start tells s f n budget = ([], None, told_nothing tells s, tt, tt, tt, omega arith)
 
 -- a step that may come over g
-next_learned : (n : ℕ) (f g : List Clause) (k : ℕ) (s : Step) → Learned f g k → valid g s ≡ true → AddsNew n g s → IsNext n (apply_all All f (steps_of f g)) s
+next_learned : (n : ℕ) (f g : List Clause) (k : ℕ) (s : Step) → Learned f g k → valid g s ≡ true → AddsNew n g s → MayComeNext n (apply_all All f (steps_of f g)) s
 next_learned n f g k s h v a = (valid_learned f g k s h v, subst (λ e. AddsNew n e s) (sym (applied_learned f g k h)) a)
 
 -- a step failed in the sink

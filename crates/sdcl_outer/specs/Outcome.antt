@@ -67,11 +67,11 @@ Answers tells old new f n budget a =
     (steps : List Step) × IsTold tells old new steps None × ValidSteps f steps × Ends f n budget steps a × NewSteps n f steps × (learned_in steps ≤ budget)
 
 -- the step is valid over f, and its clause new there
-abbrev pub IsNext : ℕ → List Clause → Step → Type 0
-IsNext n f s = (valid f s ≡ true) × AddsNew n f s
+abbrev pub MayComeNext : ℕ → List Clause → Step → Type 0
+MayComeNext n f s = (valid f s ≡ true) × AddsNew n f s
 
 -- the sink took valid steps that add new clauses, no more than the budget has, and a step that failed might have come after them
 abbrev pub Breaks : {S : Type 0} → (S → List Step → Option Step → Type 0) → S → S → List Clause → ℕ → ℕ → Type 0
 Breaks tells old new f n budget =
-    (steps : List Step) × (torn : Option Step) × IsTold tells old new steps torn × ValidSteps f steps × IfSome torn (IsNext n (apply_all All f steps)) × NewSteps n f steps
+    (steps : List Step) × (torn : Option Step) × IsTold tells old new steps torn × ValidSteps f steps × IfSome torn (MayComeNext n (apply_all All f steps)) × NewSteps n f steps
     × (learned_in steps ≤ budget)
