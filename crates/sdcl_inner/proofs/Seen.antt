@@ -209,15 +209,15 @@ last_of slots t h n =
 pub record Back (slots : Slots) (t : Levels) (c : Clause) (k : ℕ) (id : ClauseId) (p : Literal) : Type 0 where
   pub free : names (lits_of (up_to k t)) p ≡ false
   pub fits : FitsOver (slots ++ Some c ∷ []) (pushed (up_to k t) p (Some id))
-  pub back : (l : Literal) → In (decisions (pushed (up_to k t) p (Some id))) l → In (decisions t) l
+  pub back : decisions (pushed (up_to k t) p (Some id)) ≡ take k (decisions t)
 
 back_lits : (slots : Slots) (t : Levels) (k : ℕ) → IsSound t → k ≤ length t.starts → on_trail (take (k + 1) (levels_seen slots t)) ≡ lits_of (up_to k t)
 back_lits slots t k s b =
     ap (λ (x : List Level). on_trail x) (take-map (entries_seen slots) (k + 1) (levels_of t) ∙ ap (map (entries_seen slots)) (sym (levels_back t k s b)))
     ∙ seen_trail slots (up_to k t)
 
-pub gone_back : (slots : Slots) (t : Levels) (c : Clause) (k : ℕ) (id : ClauseId) (z : Last t) → IsSound t → FitsOver slots t → c ≡ complements (decisions t) → id.0 ≡ length slots → k + 1 ≡ length t.starts
-    → IsSound (up_to k t) → Back slots t c k id (negated z.decision)
+pub gone_back : (slots : Slots) (t : Levels) (c : Clause) (k : ℕ) (id : ClauseId) (z : Last t) → IsSound t → FitsOver slots t → same_set c (complements (decisions t)) ≡ true
+    → id.0 ≡ length slots → k + 1 ≡ length t.starts → IsSound (up_to k t) → Back slots t c k id (negated z.decision)
 gone_back slots t c k id z s h own new b below =
     let f = live slots in
     let joined : Slots = slots ++ Some c ∷ [] in
@@ -226,7 +226,7 @@ gone_back slots t c k id z s h own new b below =
     let p = negated d in
     let e : Entry = record { lit = p; reason = Some id } in
     let fit : trail_fits f (xs ++ d ∷ []) (levels_seen slots t) ≡ true = subst (λ (ds : Clause). trail_fits f ds (levels_seen slots t) ≡ true) z.parts h in
-    let whole : same_set c (complements (xs ++ d ∷ [])) ≡ true = subst (λ (ds : Clause). same_set c (complements ds) ≡ true) z.parts (subst (λ (x : Clause). same_set c x ≡ true) own (same_set_refl c)) in
+    let whole : same_set c (complements (xs ++ d ∷ [])) ≡ true = subst (λ (ds : Clause). same_set c (complements ds) ≡ true) z.parts own in
     let high : k ≤ length t.starts = omega (arith, b) in
     let long : suc (length xs) ≡ k + 1 = omega (arith, z.counted, b) in
     let j : Jumped f (xs ++ d ∷ []) (levels_seen slots t) c (length xs) p = jumped f (xs ++ d ∷ []) (levels_seen slots t) c (length xs) p fit (witness_asserts f xs d (levels_seen slots t) c fit whole) in
@@ -246,6 +246,6 @@ gone_back slots t c k id z s h own new b below =
     record {
       free = subst (λ (x : Clause). names x p ≡ false) (ap (λ (x : List Level). on_trail x) cut ∙ back_lits slots t k s high) j.unassigned;
       fits = fits_over joined (pushed (up_to k t) p (Some id)) (take (length xs) (xs ++ d ∷ [])) fit;
-      back = λ l i. subst (λ (x : Clause). In x l) (sym z.parts)
-          (in_append_left xs (d ∷ []) l (subst (λ (x : Clause). In x l) (decided_are joined (pushed (up_to k t) p (Some id)) (take (length xs) (xs ++ d ∷ [])) fit ∙ take_front xs (d ∷ [])) i));
+      back = decided_are joined (pushed (up_to k t) p (Some id)) (take (length xs) (xs ++ d ∷ [])) fit
+          ∙ ap (λ (x : Clause). take (length xs) x) (sym z.parts) ∙ ap (λ n. take n (decisions t)) (omega (arith, long));
     }

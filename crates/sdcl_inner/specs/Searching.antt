@@ -1,7 +1,6 @@
 -- What a solver's loop keeps, and what its steps do.
-use Rattle.std.specs.Prelude.{◌≡◌, ◌≢◌, ◌==◌, ◌≤◌, ◌<◌, ℕ, ◌+◌, Bool, true, false, List, [], ◌∷◌, ◌++◌, length, Option, Some, if◌then◌else◌}
-use Rattle.sdcl_base.specs.Literal.{Literal, Clause, names, pos_lit, complements}
-use Rattle.sdcl_base.specs.Sets.{In}
+use Rattle.std.specs.Prelude.{◌≡◌, ◌≢◌, ◌==◌, ◌≤◌, ◌<◌, ℕ, ◌+◌, ◌-◌, take, Bool, true, false, List, [], ◌∷◌, ◌++◌, length, Option, Some, if◌then◌else◌}
+use Rattle.sdcl_base.specs.Literal.{Literal, Clause, names, pos_lit}
 use Rattle.sdcl_store.specs.Stores.{AreUpTo}
 use Rattle.sdcl_base.specs.Values.{value_of}
 use Rattle.sdcl_base.specs.Propagation.{refutes}
@@ -70,9 +69,9 @@ pub record Decides (s t : State) (l : Literal) : Type 0 where
   pub more : length t.trail.starts ≡ length s.trail.starts + 1
   pub decided : decisions t.trail ≡ decisions s.trail ++ l ∷ []
 
--- what learning the clause of the complements of the decisions does
-pub record Joins (s t : State) : Type 0 where
+-- what learning the clause c of the complements of the decisions does: all decisions but the last stay
+pub record Joins (s t : State) (c : Clause) : Type 0 where
   pub ready : IsInOrder t
   pub variables_same : t.variables ≡ s.variables
-  pub slots_are : t.slots ≡ s.slots ++ Some (complements (decisions s.trail)) ∷ []
-  pub back : (l : Literal) → In (decisions t.trail) l → In (decisions s.trail) l
+  pub slots_are : t.slots ≡ s.slots ++ Some c ∷ []
+  pub back : decisions t.trail ≡ take (length s.trail.starts - 1) (decisions s.trail)

@@ -1,6 +1,7 @@
 //! What a solver's loop works on.
 ghost use Rattle.std.specs.Prelude.{◌≡◌, ◌<◌, ◌≤◌, true, false, IfOk, OnOk, length};
-ghost use Rattle.sdcl_base.specs.Literal.{names, complements};
+ghost use Rattle.sdcl_base.specs.Literal.{names, complements, same_set};
+ghost use Rattle.sdcl_base.specs.Marks.{no_repeats};
 ghost use Rattle.sdcl_store.specs.Stores.{AreUpTo};
 ghost use Rattle.sdcl_base.specs.declared.lit.TheConstants.{MAX_VARIABLE};
 ghost use Rattle.sdcl_store.specs.Slots.{live};
@@ -9,7 +10,7 @@ ghost use Rattle.sdcl_prop.specs.Seeing.{CompleteOver};
 ghost use Rattle.sdcl_inner.specs.Searching.{state_of, IsInOrder, Begins, Propagates, Decides, Joins};
 
 use crate::attaching::engine_over;
-use crate::blocking::blocking_clause;
+use crate::blocking::last_complement;
 use crate::growing::Growing;
 use sdcl_base::{Lit, NoMemory};
 use sdcl_prop::Engine;
@@ -68,18 +69,19 @@ impl<C: Growing + Drop> Search<C> {
         self.trail.push(decision, None);
     }
 
-    /// Goes back a level and learns the clause of the complements of the decisions, which forces its last literal there.
-    /// The trail is cut before the clause joins: in between nothing can be said of the uncut one.
+    /// Goes back a level and learns a clause of the complements of the decisions, in any order, which forces that of the
+    /// last decision there. The trail is cut before the clause joins: in between nothing can be said of the uncut one.
     pub fn join(&mut self, clause: &[Lit]) -> Result<(), NoMemory>
         requires ready { IsInOrder (state_of C.clauses self.old) }
         requires decided { 0 < length self.old.trail.starts }
         requires room { length (C.clauses self.old.clauses) < 4294967295 }
-        requires own { clause.now ≡ complements (decisions self.old.trail) }
-        ensures joins { OnOk result (Joins (state_of C.clauses self.old) (state_of C.clauses self.new)) }
+        requires distinct { no_repeats clause.now ≡ true }
+        requires own { same_set clause.now (complements (decisions self.old.trail)) ≡ true }
+        ensures joins { OnOk result (Joins (state_of C.clauses self.old) (state_of C.clauses self.new) clause.now) }
         ensures keeps { C.keeps self.old.clauses self.new.clauses }
     {
         let level = self.trail.level();
-        let forced = clause[clause.len() - 1];
+        let forced = last_complement(&self.trail, level);
         self.trail.pop_to(level - 1);
         let _below = self.trail.level();
         let id = self.clauses.learn(clause)?;

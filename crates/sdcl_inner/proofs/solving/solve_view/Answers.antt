@@ -1,8 +1,8 @@
-use Rattle.std.proofs.Common.{◌≡◌, ◌∙◌, ◌≤◌, ◌<◌, ◌+◌, ◌-◌, ◌∷◌, ◌++◌, [], ℕ, List, length, length-append, Bool, true, false, Some, inl, inr, refl, sym, ap, subst, arith, rules}
+use Rattle.std.proofs.Common.{◌≡◌, ◌∙◌, ◌≤◌, ◌<◌, ◌+◌, ◌-◌, ◌∷◌, ◌++◌, [], ℕ, zero, suc, List, length, length-append, take, Bool, true, false, Some, inl, inr, refl, sym, ap, subst, arith, rules}
 use Rattle.std.proofs.lemmas.Bool.{or_left, or_right, or_cases}
 use Rattle.std.proofs.lemmas.List.{length-map}
 use Rattle.std.specs.List.{list_all}
-use Rattle.sdcl_base.specs.Literal.{Literal, Clause, pos_lit, neg_lit, negated, has, names, complements}
+use Rattle.sdcl_base.specs.Literal.{Literal, Clause, pos_lit, neg_lit, negated, has, names, complements, same_set}
 use Rattle.sdcl_base.specs.Sets.{In}
 use Rattle.sdcl_base.specs.Truth.{meets, meets_clause}
 use Rattle.sdcl_base.specs.Values.{truth_of}
@@ -10,6 +10,7 @@ use Rattle.sdcl_base.specs.Propagation.{closure, refutes}
 use Rattle.sdcl_base.specs.Redundancy.{rup, is_new}
 use Rattle.sdcl_base.specs.Reduct.{learnable}
 use Rattle.sdcl_base.proofs.In.{in_append_left, in_append_cases, in_map_from, in_has, has_in, all_in, all_from, negated_negated}
+use Rattle.sdcl_base.proofs.SameSets.{same_set_refl}
 use Rattle.sdcl_store.specs.Slots.{Slots, live}
 use Rattle.sdcl_store.specs.Stores.{AreUpTo}
 use Rattle.sdcl_store.proofs.Settling.{bool_same}
@@ -18,12 +19,18 @@ use Rattle.sdcl_trail.specs.Levels.{Levels, lits_of, decisions}
 use Rattle.sdcl_prop.specs.Seeing.{levels_seen, FitsOver, CompleteOver}
 use Rattle.sdcl_prop.proofs.Seeing.{seen_trail}
 use Rattle.sdcl_inner.specs.Layers.{layered}
-use Rattle.sdcl_inner.specs.Searching.{AreValues, Begins, IsInOrder, Joins, State, state_of}
+use Rattle.sdcl_inner.specs.Searching.{AreValues, Begins, IsInOrder, Joins, state_of}
 use Rattle.sdcl_inner.proofs.Seen.{fits_opens}
 use Rattle.sdcl_inner.proofs.Assigned.{values_exact, values_meet}
 use Rattle.sdcl_inner.proofs.Refuted.{clause_new, no_decision}
 use Rattle.sdcl_inner.proofs.Learnable.{live_layered, learned_are, learnable_more, learnable_over, none_meets, blocked_rup, closure_over}
 use Rattle.sdcl_inner.proofs.solving.solve_view.Goals as goal
+
+taken_in : (n : ℕ) (c : Clause) (l : Literal) → In (take n c) l → In c l
+taken_in zero c l i = absurd i
+taken_in (suc n) [] l i = absurd i
+taken_in (suc n) (m ∷ c) l (inl e) = inl e
+taken_in (suc n) (m ∷ c) l (inr i) = inr (taken_in n c l i)
 
 -- ---- variables
 
@@ -160,6 +167,12 @@ returns-then-count-budget g c =
       (complements (decisions d.trail), subst (λ (x : List Clause). learnable (live s) c.args.prefer.now (x ++ complements (decisions d.trail) ∷ []) ≡ true) (sym kept) l.more),
     )
 
+pub join-requires-clause-own : goal.join-requires-clause-own
+join-requires-clause-own g c =
+    let ds : Clause = decisions c.descend.new.search.trail in
+    let own : c.as_slice.result.now ≡ complements ds = search rules in
+    subst (λ (x : Clause). same_set x (complements ds) ≡ true) (sym own) (same_set_refl (complements ds))
+
 pub learning-preserved : goal.learning-preserved
 learning-preserved g c =
     let s = g.V.Clauses.clauses c.args.view.now in
@@ -174,18 +187,19 @@ learning-preserved g c =
     let named : (m : Literal) → In (decisions d.trail) m → names c.args.prefer.now m ≡ true =
     λ m i. elim (o.decided m i) [ inl h ↦ inv.decided m h | inr h ↦ named_self c.args.prefer.now m h ] in
     let l : Learns s c.args.prefer.now cs d.trail = learns s here c.args.prefer.now cs d.trail slots o.ready.fits some (o.conflict c.learning-test.true) named inv.learnable in
-    let joins : Joins (state_of (λ x. layered (g.V.Clauses.clauses x.view.now) x.learned.items) d) (state_of (λ x. layered (g.V.Clauses.clauses x.view.now) x.learned.items) c.join.new.self) = c.in_ok-join.ensures.joins in
+    let own : c.as_slice.result.now ≡ complements (decisions d.trail) = search rules in
+    let joins : Joins (state_of (λ x. layered (g.V.Clauses.clauses x.view.now) x.learned.items) d) (state_of (λ x. layered (g.V.Clauses.clauses x.view.now) x.learned.items) c.join.new.self) c.as_slice.result.now = c.in_ok-join.ensures.joins in
     let view : g.V.Clauses.clauses c.join.new.self.clauses.view.now ≡ s =
     c.join.ensures.keeps ∙ ap (λ x. g.V.Clauses.clauses x.view.now) c.descend.ensures.same ∙ inv.view in
     let grown : layered s c.join.new.self.clauses.learned.items ≡ layered s cs ++ Some (complements (decisions d.trail)) ∷ [] =
-    ap (λ (x : Slots). layered x c.join.new.self.clauses.learned.items) (sym view) ∙ joins.slots_are ∙ ap (λ (x : Slots). x ++ Some (complements (decisions d.trail)) ∷ []) slots in
+    ap (λ (x : Slots). layered x c.join.new.self.clauses.learned.items) (sym view) ∙ joins.slots_are ∙ ap (λ (x : Clause). here ++ Some x ∷ []) own ∙ ap (λ (x : Slots). x ++ Some (complements (decisions d.trail)) ∷ []) slots in
     let learned : c.join.new.self.clauses.learned.items ≡ cs ++ complements (decisions d.trail) ∷ [] = learned_are s c.join.new.self.clauses.learned.items cs (complements (decisions d.trail)) grown in
     record {
       in_order = joins.ready;
       variables = joins.variables_same ∙ o.variables_same ∙ inv.variables;
       view = view;
       counted = omega (arith, ap length learned, length-append cs (complements (decisions d.trail) ∷ []), c.if-count-budget.false, c.count.ensures, ap (λ x. length x.learned.items) c.descend.ensures.same, inv.counted);
-      decided = λ m i. named m (joins.back m i);
+      decided = λ m i. named m (taken_in (length d.trail.starts - 1) (decisions d.trail) m (subst (λ (x : Clause). In x m) joins.back i));
       learnable = subst (λ (x : List Clause). learnable (live s) c.args.prefer.now x ≡ true) (sym learned) l.more;
     }
 
@@ -195,12 +209,14 @@ learning-smaller g c =
     let d = c.descend.new.search in
     let inv = c.learning.invariant in
     let cs = c.learning.search.clauses.learned.items in
+    let own : c.as_slice.result.now ≡ complements (decisions d.trail) = search rules in
     let slots : layered (g.V.Clauses.clauses d.clauses.view.now) d.clauses.learned.items ≡ layered s cs =
     ap (λ x. layered (g.V.Clauses.clauses x.view.now) x.learned.items) c.descend.ensures.same ∙ ap (λ (x : Slots). layered x cs) inv.view in
     let view : g.V.Clauses.clauses c.join.new.self.clauses.view.now ≡ s =
     c.join.ensures.keeps ∙ ap (λ x. g.V.Clauses.clauses x.view.now) c.descend.ensures.same ∙ inv.view in
     let grown : layered s c.join.new.self.clauses.learned.items ≡ layered s cs ++ Some (complements (decisions d.trail)) ∷ [] =
-    ap (λ (x : Slots). layered x c.join.new.self.clauses.learned.items) (sym view) ∙ c.in_ok-join.ensures.joins.slots_are ∙ ap (λ (x : Slots). x ++ Some (complements (decisions d.trail)) ∷ []) slots in
+    ap (λ (x : Slots). layered x c.join.new.self.clauses.learned.items) (sym view) ∙ c.in_ok-join.ensures.joins.slots_are ∙ ap (λ (x : Clause). layered (g.V.Clauses.clauses d.clauses.view.now) d.clauses.learned.items ++ Some x ∷ []) own
+    ∙ ap (λ (x : Slots). x ++ Some (complements (decisions d.trail)) ∷ []) slots in
     let n : length c.join.new.self.clauses.learned.items ≡ length cs + 1 =
     ap length (learned_are s c.join.new.self.clauses.learned.items cs (complements (decisions d.trail)) grown) ∙ length-append cs (complements (decisions d.trail) ∷ []) in
     omega (arith, n, c.if-count-budget.false, c.count.ensures, ap (λ x. length x.learned.items) c.descend.ensures.same, c.learning.invariant.counted)

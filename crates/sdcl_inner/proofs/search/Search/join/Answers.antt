@@ -1,4 +1,4 @@
-use Rattle.std.proofs.Common.{◌≡◌, ◌∙◌, ◌≤◌, ◌+◌, ◌-◌, ◌∷◌, ◌++◌, [], Some, List, Option, length, length-append, get_or, inl, inr, refl, sym, ap, subst, arith, rules, false, true}
+use Rattle.std.proofs.Common.{◌≡◌, ◌∙◌, ◌≤◌, ◌+◌, ◌-◌, ◌∷◌, ◌++◌, [], Some, List, Option, length, length-append, take, inl, inr, refl, sym, ap, subst, arith, rules, false, true}
 use Rattle.sdcl_base.specs.Literal.{Literal, Clause, negated, has, complements}
 use Rattle.sdcl_base.specs.Sets.{In}
 use Rattle.sdcl_store.specs.Stores.{AreUpTo}
@@ -8,56 +8,45 @@ use Rattle.sdcl_store.specs.Slots.{Slots, clause_of, live}
 use Rattle.sdcl_trail.specs.Levels.{Levels, decisions, lits_of, pushed, up_to, IsSound}
 use Rattle.sdcl_prop.specs.Fitting.{Fits, Covers, Attaches}
 use Rattle.sdcl_prop.specs.Seeing.{FitsOver}
-use Rattle.sdcl_inner.proofs.Seen.{Last, last_of}
+use Rattle.sdcl_inner.proofs.Seen.{fits_opens}
 use Rattle.sdcl_prop.proofs.Changing.{fits_joined, covers_joined}
 use Rattle.sdcl_inner.proofs.Engines.{joined_clause, within_joined}
-use Rattle.sdcl_inner.proofs.Joining.{Joining, joining, clause_ranged, clause_long}
+use Rattle.sdcl_inner.proofs.Joining.{Joining, joining, clause_ranged}
 use Rattle.sdcl_inner.proofs.search.Search.join.Goals as goal
 
-pub overflow_sub-forced : goal.overflow_sub-forced
-overflow_sub-forced g c =
-    let s = c.args.self.now in
-    let slots = g.C.Clauses.clauses s.clauses in
-    omega (arith, clause_long slots s.trail c.args.clause.now (last_of slots s.trail c.requires.ready.fits c.requires.decided) c.requires.own, c.requires.decided)
-
-pub bounds-clause-clause : goal.bounds-clause-clause
-bounds-clause-clause g c =
-    let s = c.args.self.now in
-    let slots = g.C.Clauses.clauses s.clauses in
-    omega (arith, clause_long slots s.trail c.args.clause.now (last_of slots s.trail c.requires.ready.fits c.requires.decided) c.requires.own, c.requires.decided)
+pub last_complement-forced-requires-clause-opens : goal.last_complement-forced-requires-clause-opens
+last_complement-forced-requires-clause-opens g c =
+    fits_opens (g.C.Clauses.clauses c.args.self.now.clauses) c.args.self.now.trail c.requires.ready.fits
 
 pub push-requires-clause-range : goal.push-requires-clause-range
 push-requires-clause-range g c =
     let s = c.args.self.now in
     let slots = g.C.Clauses.clauses s.clauses in
     let cut : c.pop_to.new.self ≡ up_to (c.level-level.result - 1) s.trail = c.pop_to.ensures in
-    let e : c.index-clause-clause.result ≡ get_or c.args.clause.now (length c.args.clause.now - 1) c.index-clause-clause.result = search rules in
-    let j : Joining slots s.trail c.args.clause.now (c.level-level.result - 1) c.index-clause-clause.result =
-    joining slots s.trail c.args.clause.now (c.level-level.result - 1) c.index-clause-clause.result c.requires.ready.fits c.requires.decided c.level-level.ensures.sound
-    (subst IsSound cut c.level-below.ensures.sound) c.requires.own (omega (arith, c.level-level.ensures.value, c.requires.decided)) e in
-    subst (λ (u : Levels). c.index-clause-clause.result.var ≤ u.variables) (sym cut) j.ranged
+    let j : Joining slots s.trail c.args.clause.now (c.level-level.result - 1) c.last_complement-forced.result =
+    joining slots s.trail c.args.clause.now (c.level-level.result - 1) c.last_complement-forced.result c.requires.ready.fits c.requires.decided c.level-level.ensures.sound
+    (subst IsSound cut c.level-below.ensures.sound) c.requires.distinct c.requires.own (omega (arith, c.level-level.ensures.value, c.requires.decided)) c.last_complement-forced.ensures in
+    subst (λ (u : Levels). c.last_complement-forced.result.var ≤ u.variables) (sym cut) j.ranged
 
 pub push-requires-clause-free : goal.push-requires-clause-free
 push-requires-clause-free g c =
     let s = c.args.self.now in
     let slots = g.C.Clauses.clauses s.clauses in
     let cut : c.pop_to.new.self ≡ up_to (c.level-level.result - 1) s.trail = c.pop_to.ensures in
-    let e : c.index-clause-clause.result ≡ get_or c.args.clause.now (length c.args.clause.now - 1) c.index-clause-clause.result = search rules in
-    let j : Joining slots s.trail c.args.clause.now (c.level-level.result - 1) c.index-clause-clause.result =
-    joining slots s.trail c.args.clause.now (c.level-level.result - 1) c.index-clause-clause.result c.requires.ready.fits c.requires.decided c.level-level.ensures.sound
-    (subst IsSound cut c.level-below.ensures.sound) c.requires.own (omega (arith, c.level-level.ensures.value, c.requires.decided)) e in
-    subst (λ (u : Levels). has u.lits c.index-clause-clause.result ≡ false) (sym cut) j.free
+    let j : Joining slots s.trail c.args.clause.now (c.level-level.result - 1) c.last_complement-forced.result =
+    joining slots s.trail c.args.clause.now (c.level-level.result - 1) c.last_complement-forced.result c.requires.ready.fits c.requires.decided c.level-level.ensures.sound
+    (subst IsSound cut c.level-below.ensures.sound) c.requires.distinct c.requires.own (omega (arith, c.level-level.ensures.value, c.requires.decided)) c.last_complement-forced.ensures in
+    subst (λ (u : Levels). has u.lits c.last_complement-forced.result ≡ false) (sym cut) j.free
 
 pub push-requires-clause-free_complement : goal.push-requires-clause-free_complement
 push-requires-clause-free_complement g c =
     let s = c.args.self.now in
     let slots = g.C.Clauses.clauses s.clauses in
     let cut : c.pop_to.new.self ≡ up_to (c.level-level.result - 1) s.trail = c.pop_to.ensures in
-    let e : c.index-clause-clause.result ≡ get_or c.args.clause.now (length c.args.clause.now - 1) c.index-clause-clause.result = search rules in
-    let j : Joining slots s.trail c.args.clause.now (c.level-level.result - 1) c.index-clause-clause.result =
-    joining slots s.trail c.args.clause.now (c.level-level.result - 1) c.index-clause-clause.result c.requires.ready.fits c.requires.decided c.level-level.ensures.sound
-    (subst IsSound cut c.level-below.ensures.sound) c.requires.own (omega (arith, c.level-level.ensures.value, c.requires.decided)) e in
-    subst (λ (u : Levels). has u.lits (negated c.index-clause-clause.result) ≡ false) (sym cut) j.free_complement
+    let j : Joining slots s.trail c.args.clause.now (c.level-level.result - 1) c.last_complement-forced.result =
+    joining slots s.trail c.args.clause.now (c.level-level.result - 1) c.last_complement-forced.result c.requires.ready.fits c.requires.decided c.level-level.ensures.sound
+    (subst IsSound cut c.level-below.ensures.sound) c.requires.distinct c.requires.own (omega (arith, c.level-level.ensures.value, c.requires.decided)) c.last_complement-forced.ensures in
+    subst (λ (u : Levels). has u.lits (negated c.last_complement-forced.result) ≡ false) (sym cut) j.free_complement
 
 pub attach-requires-clause-fits : goal.attach-requires-clause-fits
 attach-requires-clause-fits g c =
@@ -74,10 +63,6 @@ attach-requires-clause-within g c l i =
     let w : (1 ≤ l.var) × (l.var ≤ s.trail.variables) = clause_ranged slots s.trail c.args.clause.now c.requires.ready.fits c.level-level.ensures.sound c.requires.own l own in
     omega (arith, w.1, c.requires.ready.trail_same, c.requires.ready.engine_same)
 
-pub learn-requires-clause-distinct : goal.learn-requires-clause-distinct
-learn-requires-clause-distinct g c =
-    subst (λ (x : Clause). no_repeats x ≡ true) (sym c.requires.own) (decisions_distinct c.args.self.now.trail c.level-level.ensures.sound.apart)
-
 pub returns-clause-joins : goal.returns-clause-joins
 returns-clause-joins g c =
     let s = c.args.self.now in
@@ -85,14 +70,13 @@ returns-clause-joins g c =
     let slots = g.C.Clauses.clauses s.clauses in
     let d = c.args.clause.now in
     let k = c.level-level.result - 1 in
-    let p = c.index-clause-clause.result in
+    let p = c.last_complement-forced.result in
     let id = c.in_ok-id.id in
     let new : id.0 ≡ length slots = c.in_ok-id.ensures.id in
     let cut : c.pop_to.new.self ≡ up_to k t = c.pop_to.ensures in
-    let e : p ≡ get_or d (length d - 1) p = search rules in
     let j : Joining slots t d k p =
     joining slots t d k p c.requires.ready.fits c.requires.decided c.level-level.ensures.sound
-    (subst IsSound cut c.level-below.ensures.sound) c.requires.own (omega (arith, c.level-level.ensures.value, c.requires.decided)) e in
+    (subst IsSound cut c.level-below.ensures.sound) c.requires.distinct c.requires.own (omega (arith, c.level-level.ensures.value, c.requires.decided)) c.last_complement-forced.ensures in
     let grown : g.C.Clauses.clauses c.learn.new.self ≡ slots ++ Some d ∷ [] = c.in_ok-id.ensures.grown in
     let trail : c.push.new.self ≡ pushed (up_to k t) p (Some id) = c.push.ensures ∙ ap (λ (u : Levels). pushed u p (Some id)) cut in
     record {
@@ -107,6 +91,6 @@ returns-clause-joins g c =
         fits = subst (λ (x : Slots). FitsOver x c.push.new.self) (sym grown) (subst (FitsOver (slots ++ Some d ∷ [])) (sym trail) (j.fits id new));
       };
       variables_same = refl;
-      slots_are = grown ∙ ap (λ (x : Clause). slots ++ Some x ∷ []) c.requires.own;
-      back = λ l i. j.back id new l (subst (λ (u : Levels). In (decisions u) l) trail i);
+      slots_are = grown;
+      back = ap decisions trail ∙ j.back id new ∙ ap (λ n. take (n - 1) (decisions t)) c.level-level.ensures.value;
     }

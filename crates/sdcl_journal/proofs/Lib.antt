@@ -1,0 +1,4 @@
+pub mod Counting
+pub mod Bound
+pub mod PathSteps
+pub mod LongRuns

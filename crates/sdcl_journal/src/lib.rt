@@ -1,0 +1,13 @@
+//! The events of the solver, sinks of them, and the machine of satisfaction-driven clause learning.
+#![tactic(auto)]
+
+pub mod event;
+pub mod laws;
+pub mod recorder;
+pub mod sink;
+pub mod writing;
+
+pub use event::Event;
+pub use recorder::Recorder;
+pub use sink::JournalOut;
+pub use writing::write_event;
