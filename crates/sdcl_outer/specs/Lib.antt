@@ -1,3 +1,4 @@
+pub mod Attempts
 pub mod Descending
 pub mod Errors
 pub mod Outcome
