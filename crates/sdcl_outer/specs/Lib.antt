@@ -1,4 +1,3 @@
 pub mod Descending
 pub mod Errors
 pub mod Outcome
-pub mod Telling
