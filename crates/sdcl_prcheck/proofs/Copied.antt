@@ -12,8 +12,8 @@ use Rattle.sdcl_store.specs.Slots.{Slots, slot_at, is_alive, clause_of, live, li
 use Rattle.sdcl_store.proofs.Slots.{live_append, live_split, alive_some}
 use Rattle.sdcl_rup.specs.Base.{Base}
 use Rattle.sdcl_rup.specs.Held.{Within}
-use Rattle.sdcl_inner.proofs.Distinct.{firsts_distinct}
-use Rattle.sdcl.specs.Judging.{Copies}
+use Rattle.sdcl_prcheck.proofs.Joining.{firsts_same}
+use Rattle.sdcl_prcheck.specs.Copying.{Copies}
 
 all_of : {A : Type 0} (P : A → Type 0) (xs : List A) → ((x : A) → In xs x → P x) → All P xs
 all_of P [] h k d i = absurd (omega (arith, i))
@@ -35,7 +35,7 @@ pub copies_one : (slots : Slots) (b d : Base) (n : ℕ) (c : Clause) → is_aliv
     → Copies slots b d n
 copies_one slots b d n c a e h k = record {
   clauses =
-      ap (λ (x : Base). x.clauses) k ∙ ap (λ (x : Clause). b.clauses ++ x ∷ []) (firsts_distinct c h ∙ e)
+      ap (λ (x : Base). x.clauses) k ∙ ap (λ (x : Clause). b.clauses ++ x ∷ []) (firsts_same c h ∙ e)
       ∙ ap (λ (o : Option Clause). b.clauses ++ live (o ∷ [])) (sym (alive_some slots n a));
   covered = ap (λ (x : Base). x.covered) k;
 }
