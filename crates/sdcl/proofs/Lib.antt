@@ -1,6 +1,5 @@
 mod Formed
 pub mod Values
-pub mod Copying
 pub mod Reading
 pub mod Roles
 pub mod Later

@@ -2,8 +2,6 @@
 use Rattle.std.specs.Prelude.{◌≡◌, ⊤, ℕ, Bool, false, List, [], ◌++◌, length, Option, None, Some, IsSome, Result, IfOk, IfErr, ◌∷◌}
 use Rattle.std.specs.List.{list_any}
 use Rattle.sdcl_base.specs.Literal.{Clause}
-use Rattle.sdcl_store.specs.Slots.{Slots, slot_at, live}
-use Rattle.sdcl_rup.specs.Base.{Base}
 use Rattle.sdcl_base.specs.Truth.{Unsatisfiable}
 use Rattle.sdcl_io.specs.declared.world.InRole.TheVariants.{Proof}
 use Rattle.sdcl_io.specs.World.{Seen, OnlyRead, Calm}
@@ -105,8 +103,3 @@ pub record Judges (dialect : Dialect) (name : List ℕ) (f : List Clause) (s t :
   pub calm : IsSome (s.file name) → Calm s t
   pub ok : IfOk result (λ v. Judged dialect f (s.file name) (t.left Proof) v)
   pub err : IfErr result (λ e. InputRefuses (proof_over dialect name f) s t e)
-
--- the clause of slot n, if it has one, is added too
-pub record Copies (slots : Slots) (b d : Base) (n : ℕ) : Type 0 where
-  pub clauses : d.clauses ≡ b.clauses ++ live (slot_at slots n ∷ [])
-  pub covered : d.covered ≡ b.covered

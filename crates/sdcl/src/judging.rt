@@ -1,5 +1,5 @@
 //! The judging of a proof.
-ghost use Rattle.std.specs.Prelude.{◌≡◌, ◌≤◌, ◌<◌, true, IsTrue, IfOk, OnOk, IsErrOf, None, length};
+ghost use Rattle.std.specs.Prelude.{◌≡◌, ◌≤◌, true, IsTrue, IfOk, IsErrOf, None};
 ghost use Rattle.sdcl_io.specs.declared.world.InRole.TheVariants as input;
 ghost use Rattle.sdcl_io.specs.World.{Rose, OnlyRead, Calm};
 ghost use Rattle.sdcl_io.specs.Readers.{reading};
@@ -7,17 +7,16 @@ ghost use Rattle.sdcl_proof.specs.Stepping.{stepping, text_in, left_in};
 ghost use Rattle.sdcl_base.specs.Sets.{WithinVariables};
 ghost use Rattle.sdcl_base.specs.declared.lit.TheConstants.{MAX_VARIABLE};
 ghost use Rattle.sdcl_store.specs.Stores.{clauses_in};
-ghost use Rattle.sdcl.specs.Judging.{Copies, Judges, JudgesText, refusal_of};
+ghost use Rattle.sdcl.specs.Judging.{Judges, JudgesText, refusal_of};
 
 use crate::loading::Loaded;
 use crate::refusal::{Place, Refusal, Trouble, blame};
-use sdcl_base::{ClauseId, NoMemory};
+use sdcl_base::NoMemory;
 use sdcl_dratcheck::check_drat;
 use sdcl_io::{InRole, Reader, World};
-use sdcl_prcheck::{Verdict, check_pr};
+use sdcl_prcheck::{Verdict, check_pr, database_of};
 use sdcl_proof::{Dialect, ProofError, StepReader};
 use sdcl_rup::Database;
-use sdcl_store::{Clauses, Store};
 use std::alloc::Global;
 
 /// The greatest number of bytes of a proof's text.
@@ -39,7 +38,7 @@ pub fn judge<W: World>(
     if let Err(failed) = world.open_input(InRole::Proof, name) {
         return Err(blame(Place::Proof, Trouble::Open, failed));
     }
-    let Ok(mut database) = database_of(alloc, loaded) else {
+    let Ok(mut database) = database_for(alloc, loaded) else {
         return Err(Refusal::Memory);
     };
     match judge_open(alloc, world, dialect, &mut database) {
@@ -48,32 +47,13 @@ pub fn judge<W: World>(
     }
 }
 
-// The clauses of the formula, for a checker.
-fn database_of(alloc: Global, loaded: Loaded) -> Result<Database, NoMemory>
+// The clauses of the formula, for a checker. The formula itself goes.
+fn database_for(alloc: Global, loaded: Loaded) -> Result<Database, NoMemory>
     requires few { loaded.variables ≤ MAX_VARIABLE }
     requires within { WithinVariables loaded.variables (clauses_in loaded.store) }
     ensures { IfOk result (λ database. database.clauses ≡ clauses_in loaded.store) }
 {
-    let mut database = Database::new(alloc)?;
-    database.cover(loaded.variables)?;
-    // the clauses below `id` are copied, and their variables covered
-    for id in 0..loaded.store.slots() {
-        copy(&mut database, &loaded.store, ClauseId(id))?;
-    }
-    Ok(database)
-}
-
-// Adds the id's clause, if there is one.
-fn copy(database: &mut Database, store: &Store, id: ClauseId) -> Result<(), NoMemory>
-    requires within { WithinVariables database.old.covered (clauses_in store.now) }
-    requires there { id.0 < length store.now.slots }
-    ensures { OnOk result (Copies store.now.slots database.old database.new id.0) }
-{
-    if store.alive(id) {
-        database.add(store.literals(id))
-    } else {
-        Ok(())
-    }
+    database_of(alloc, &loaded.store, loaded.variables)
 }
 
 // Lends the world to a reader of the open proof.

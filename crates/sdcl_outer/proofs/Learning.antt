@@ -12,7 +12,7 @@ use Rattle.sdcl_base.proofs.In.{all_in, all_from, in_union_cases, negated_negate
 use Rattle.sdcl_io.specs.Step.{Step, Add, All, End, Verified, adds_empty, is_empty, apply, apply_all, judge, rat_first, valid, ValidSteps}
 use Rattle.sdcl_io.proofs.Judging.{valid_verified}
 use Rattle.sdcl_outer.specs.Outcome.{is_plain, AreRefuted, Breaks, AddsNew, NewSteps, MayComeNext, learned_in}
-use Rattle.sdcl_outer.specs.Telling.{IsTold, MayBeTold}
+use Rattle.sdcl_io.specs.Telling.{IsTold, MayBeTold}
 use Rattle.sdcl_base.specs.Literal.{Literal, Clause, negated, has, union, complements}
 use Rattle.sdcl_base.specs.Sets.{In, WithinVariables}
 use Rattle.sdcl_store.specs.Slots.{Slots, live}

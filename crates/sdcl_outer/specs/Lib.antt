@@ -2,4 +2,3 @@ pub mod Attempts
 pub mod Descending
 pub mod Errors
 pub mod Outcome
-pub mod Telling

@@ -9,7 +9,7 @@ use Rattle.sdcl_base.specs.Redundancy.{is_new}
 use Rattle.sdcl_base.specs.Marks.{no_repeats}
 use Rattle.sdcl_base.specs.Values.{IsTotal, truth_of}
 use Rattle.sdcl_io.specs.Step.{Step, Add, AddWitness, Delete, All, End, Verified, adds_empty, apply, apply_all, judge, valid, ValidSteps}
-use Rattle.sdcl_outer.specs.Telling.{IsTold}
+use Rattle.sdcl_io.specs.Telling.{IsTold}
 use Rattle.sdcl_outer.specs.declared.solving.Answer.{Answer}
 use Rattle.sdcl_outer.specs.declared.solving.Answer.TheVariants as answer
 

@@ -8,7 +8,7 @@ ghost use Rattle.sdcl_base.specs.declared.lit.TheConstants.{MAX_VARIABLE};
 ghost use Rattle.sdcl_io.specs.Step.{Add};
 ghost use Rattle.sdcl_store.specs.Stores.{clauses_in};
 ghost use Rattle.sdcl_trail.specs.Levels.{decisions};
-ghost use Rattle.sdcl_outer.specs.Telling.{IsTold, MayBeTold};
+ghost use Rattle.sdcl_io.specs.Telling.{IsTold, MayBeTold};
 ghost use Rattle.sdcl_outer.specs.Outcome.{Answers, Breaks};
 ghost use Rattle.sdcl_inner.specs.Searching.{state_of, IsInOrder, Joins};
 ghost use Rattle.sdcl_outer.specs.Errors.{error_of};

@@ -11,7 +11,7 @@ use Rattle.sdcl_inner.proofs.Joining.{clause_ranged}
 use Rattle.sdcl_inner.proofs.Refuted.{no_decision}
 use Rattle.sdcl_trail.specs.Levels.{decisions}
 use Rattle.sdcl_outer.specs.Outcome.{Breaks, AreRefuted, IsNewClause, NewSteps}
-use Rattle.sdcl_outer.specs.Telling.{IsTold}
+use Rattle.sdcl_io.specs.Telling.{IsTold}
 use Rattle.sdcl_inner.specs.Searching.{Begins, Joins, AreValues, state_of}
 use Rattle.sdcl_outer.proofs.Modelled.{values_total, values_meet_all}
 use Rattle.sdcl_outer.proofs.Refuted.{clause_new, some_decision, decisions_refuted}

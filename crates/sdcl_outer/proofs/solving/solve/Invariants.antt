@@ -3,7 +3,7 @@ use Rattle.sdcl_store.specs.Stores.{clauses_in}
 use Rattle.sdcl_base.specs.Sets.{WithinVariables}
 use Rattle.sdcl_inner.specs.Searching.{state_of, IsInOrder}
 use Rattle.sdcl_outer.specs.Outcome.{NewSteps}
-use Rattle.sdcl_outer.specs.Telling.{IsTold}
+use Rattle.sdcl_io.specs.Telling.{IsTold}
 use Rattle.sdcl_outer.proofs.Learning.{Learned, steps_of}
 use Rattle.sdcl_outer.proofs.solving.solve.Given as goal
 

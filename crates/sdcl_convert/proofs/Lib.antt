@@ -1,0 +1,10 @@
+pub mod Good
+pub mod Blocks
+pub mod Whole
+pub mod Plain
+pub mod Lining
+pub mod Told
+pub mod Gathering
+pub mod Apart
+pub mod Turning
+pub mod Ending
