@@ -5,7 +5,7 @@ ghost use Rattle.sdcl_io.specs.World.{Rose, OnlyRead, Calm};
 ghost use Rattle.sdcl_dimacs.specs.FormulaText.{formula_text};
 ghost use Rattle.sdcl_store.specs.Stores.{fresh, clauses_in, IsWhole};
 ghost use Rattle.sdcl_dimacs.specs.Within.{IsFormula};
-ghost use Rattle.sdcl_dimacs.specs.Answers.{Reports};
+ghost use Rattle.sdcl_dimacs.specs.Reports.{Reports};
 ghost use Rattle.sdcl.specs.declared.loading.TheConstants.{FORMULA_LIMIT};
 ghost use Rattle.sdcl.specs.Loading.{FormulaReadOut, Loads, refusal_for};
 
@@ -51,7 +51,7 @@ fn read<W: World>(alloc: Global, world: &mut W, store: &mut Store) -> Result<Hea
     ensures calm { Calm (W.seen world.old) (W.seen world.new) }
     ensures within { IfOk result (λ h. IsFormula h (clauses_in store.new)) }
     ensures text { IfSome ((W.seen world.old).left Formula)
-        (λ text. Answers result (clauses_in store.new) (formula_text FORMULA_LIMIT text)) }
+        (λ text. Reports result (clauses_in store.new) (formula_text FORMULA_LIMIT text)) }
     ensures whole { IsWhole store.new }
     ensures read_out { OnOk result
         (FormulaReadOut ((W.seen world.old).left Formula) ((W.seen world.new).left Formula)) }

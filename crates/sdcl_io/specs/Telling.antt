@@ -2,9 +2,9 @@
 use Rattle.std.specs.Prelude.{◌⊎◌, List, [], ◌∷◌, ◌++◌, Option, Some, None}
 use Rattle.sdcl_io.specs.Step.{Step}
 
--- these steps more were taken, and then this step failed
-abbrev pub IsTold : {S : Type 0} → (S → List Step → Option Step → Type 0) → S → S → List Step → Option Step → Type 0
-IsTold tells old new more torn = (before : List Step) → tells old before None → tells new (before ++ more) torn
+-- these steps, or events, more were taken, and then this one failed
+abbrev pub IsTold : {S X : Type 0} → (S → List X → Option X → Type 0) → S → S → List X → Option X → Type 0
+IsTold {S} {X} tells old new more torn = (before : List X) → tells old before None → tells new (before ++ more) torn
 
 -- the step was not told, or it failed, or it was taken
 abbrev pub MayBeTold : {S : Type 0} → (S → List Step → Option Step → Type 0) → S → S → Step → Type 0

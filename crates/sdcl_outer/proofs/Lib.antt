@@ -1,5 +1,15 @@
-pub mod Learning
 pub mod Refuted
 pub mod Modelled
 pub mod LongRuns
 pub mod Settled
+pub mod Following
+pub mod Guards
+pub mod Telling
+pub mod Courses
+pub mod Learned
+pub mod Witnessed
+pub mod Sought
+pub mod Stepping
+pub mod Turned
+pub mod Outcomes
+pub mod Solved

@@ -34,11 +34,11 @@ is_new_clause n f (l ∷ ls) h d k = (h, (d, k))
 pub clause_new : (slots : Slots) (t : Levels) → FitsOver slots t → IsSound t → 0 < length t.starts → IsNewClause t.variables (live slots) (complements (decisions t))
 clause_new slots t h s n =
     is_new_clause t.variables (live slots) (complements (decisions t)) (blocked_new slots t h n) (decisions_distinct t s.apart)
-    (clause_ranged slots t (complements (decisions t)) h s refl)
+    (clause_ranged slots t (complements (decisions t)) h s (same_set_refl (complements (decisions t))))
 
 -- ---- the decisions
 
-are_decisions : (n : ℕ) (f : List Clause) (levels : List Level) (xs ys : Clause) → trail_fits f (xs ++ ys) levels ≡ true → ((l : Literal) → In ys l → (1 ≤ l.var) × (l.var ≤ n)) → AreDecisions n f xs ys
+pub are_decisions : (n : ℕ) (f : List Clause) (levels : List Level) (xs ys : Clause) → trail_fits f (xs ++ ys) levels ≡ true → ((l : Literal) → In ys l → (1 ≤ l.var) × (l.var ≤ n)) → AreDecisions n f xs ys
 are_decisions n f levels xs [] t r = tt
 are_decisions n f levels xs (y ∷ ys) t r =
     let b : (1 ≤ y.var) × (y.var ≤ n) = r y (inl refl) in (

@@ -24,7 +24,7 @@ use Rattle.sdcl_witness.specs.Witnesses.{Pair, turned, complements_from, extract
 use Rattle.sdcl_outer.proofs.LongRuns.{long_bound}
 use Rattle.sdcl_outer.specs.declared.attempted.Attempt.{Attempt}
 use Rattle.sdcl_outer.specs.declared.attempted.Attempt.TheVariants as attempt
-use Rattle.sdcl_outer.specs.Attempts.{Settled, Attempted, Exhausts, IsWitness}
+use Rattle.sdcl_outer.specs.Attempts.{EndsReduct, Attempted, Exhausts, IsWitness}
 
 -- ---- lists
 
@@ -154,7 +154,7 @@ witness_from m slots t room v o h k n =
 -- ---- the answer
 
 pub settled_attempted : (m : ReductMode) (slots : Slots) (t : Levels) (b room : ℕ) (out : Pair) (r : List Clause) → is_off m ≡ false → HoldsClosure slots t → r ≡ reduct m (live slots) (decisions t)
-    → (a : Attempt) → Settled r t b room out a → Attempted m (live slots) t b out a
+    → (a : Attempt) → EndsReduct r t b room out a → Attempted m (live slots) t b out a
 settled_attempted m slots t b room out r o h e attempt.Witnessed s =
     let k : meets s.0 (reduct m (live slots) (decisions t)) ≡ true = subst (λ (x : List Clause). meets s.0 x ≡ true) e s.1 in
     ((s.0, k), subst (IsWitness (live slots) t) (sym s.3) (witness_from m slots t room s.0 o h k s.2))

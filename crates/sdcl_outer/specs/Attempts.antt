@@ -52,10 +52,10 @@ AreOver a r = (d : Clause) (l : Literal) → In r d → In d l → names a l ≡
 
 -- the answer is right of the clauses r, of which the last is that of the complements of the
 -- decisions
-abbrev pub Settled : List Clause → Levels → ℕ → ℕ → Pair → Attempt → Type 0
-Settled r t budget room out attempt.Witnessed = (v : ℕ → Bool) × (meets v r ≡ true)
+abbrev pub EndsReduct : List Clause → Levels → ℕ → ℕ → Pair → Attempt → Type 0
+EndsReduct r t budget room out attempt.Witnessed = (v : ℕ → Bool) × (meets v r ≡ true)
     × (turned v (decisions t) ≢ [])
     × (out ≡ extracted room v (decisions t) (lits_of t))
-Settled r t budget room out attempt.NoWitness = Unsatisfiable r
-Settled r t budget room out (attempt.InnerSpent variables kept) =
+EndsReduct r t budget room out attempt.NoWitness = Unsatisfiable r
+EndsReduct r t budget room out (attempt.InnerSpent variables kept) =
     (variables ≡ length (lits_of t)) × ShowsLong r (lits_of t) budget kept

@@ -1,4 +1,7 @@
-pub mod Attempts
-pub mod Descending
 pub mod Errors
 pub mod Outcome
+pub mod Attempts
+pub mod Coursing
+pub mod Descending
+pub mod Turning
+pub mod Running

@@ -1,5 +1,5 @@
 -- How a run of the solver ends.
-use Rattle.std.specs.Prelude.{◌≡◌, ◌≢◌, ⊤, ℕ, suc, ◌+◌, ◌≤◌, Bool, true, false, List, [], ◌∷◌, ◌++◌, length, Option, None, IfSome, slice_get, if◌then◌else◌}
+use Rattle.std.specs.Prelude.{◌≡◌, ◌≢◌, ◌⊎◌, ⊤, ℕ, suc, ◌+◌, ◌≤◌, Bool, true, false, List, [], ◌∷◌, ◌++◌, length, Option, None, IfSome, slice_get, if◌then◌else◌}
 use Rattle.std.specs.List.{list_any, list_all}
 use Rattle.sdcl_base.specs.Literal.{Literal, Clause, names}
 use Rattle.sdcl_base.specs.Truth.{meets}
@@ -10,14 +10,16 @@ use Rattle.sdcl_base.specs.Marks.{no_repeats}
 use Rattle.sdcl_base.specs.Values.{IsTotal, truth_of}
 use Rattle.sdcl_io.specs.Step.{Step, Add, AddWitness, Delete, All, End, Verified, adds_empty, apply, apply_all, judge, valid, ValidSteps}
 use Rattle.sdcl_io.specs.Telling.{IsTold}
+use Rattle.sdcl_base.specs.Reduct.{reduct, HasModel, is_off}
+use Rattle.sdcl_journal.specs.Machine.{Rules, covers}
 use Rattle.sdcl_outer.specs.declared.solving.Answer.{Answer}
 use Rattle.sdcl_outer.specs.declared.solving.Answer.TheVariants as answer
 
--- whether the step is an addition without a witness
-abbrev pub is_plain : Step → Bool
-is_plain (Add c) = true
-is_plain (AddWitness c w) = false
-is_plain (Delete c) = false
+-- whether the step is an addition
+abbrev pub is_addition : Step → Bool
+is_addition (Add c) = true
+is_addition (AddWitness c w) = true
+is_addition (Delete c) = false
 
 -- no literal stands twice, and the variables are from 1 to n
 abbrev pub IsCleanOver : ℕ → Clause → Type 0
@@ -50,11 +52,27 @@ pub record AreRefuted (n : ℕ) (f : List Clause) (ds : Clause) : Type 0 where
   pub decisions : AreDecisions n f [] ds
   pub refuted : refutes f ds ≡ true
 
+-- at least one decision and no more than the rules allow, which f does not refute and which leave a variable open, and the
+-- mode's reduct has a model
+pub record AreWitnessed (r : Rules) (f : List Clause) (ds : Clause) : Type 0 where
+  pub some : ds ≢ []
+  pub few : length ds ≤ r.depth
+  pub decisions : AreDecisions r.variables f [] ds
+  pub unrefuted : refutes f ds ≡ false
+  pub open_here : covers r.variables (closure f ds) ≡ false
+  pub off : is_off r.mode ≡ false
+  pub model : HasModel (reduct r.mode f ds)
+
+-- one clause more would be learned
+abbrev pub IsDueAt : Rules → List Clause → Clause → Type 0
+IsDueAt r f ds = AreRefuted r.variables f ds ⊎ AreWitnessed r f ds
+
 -- the answer is right of the formula f over the variables from 1 to n, after these steps
-abbrev pub Ends : List Clause → ℕ → ℕ → List Step → Answer → Type 0
-Ends f n budget steps (answer.Model a) = IsTotal n a × (meets (truth_of a) f ≡ true) × (length a ≡ n + 1)
-Ends f n budget steps answer.Refuted = (earlier : List Step) × (steps ≡ earlier ++ Add [] ∷ []) × (list_any adds_empty earlier ≡ false) × (judge All f steps End ≡ Verified)
-Ends f n budget steps answer.Spent = (length steps ≡ budget) × (list_all is_plain steps ≡ true) × (list_any adds_empty steps ≡ false) × ((ds : Clause) × AreRefuted n (apply_all All f steps) ds)
+abbrev pub Ends : Rules → List Clause → List Step → Answer → Type 0
+Ends r f steps (answer.Model a) = IsTotal r.variables a × (meets (truth_of a) f ≡ true) × (length a ≡ r.variables + 1)
+Ends r f steps answer.Refuted = (earlier : List Step) × (steps ≡ earlier ++ Add [] ∷ []) × (list_any adds_empty earlier ≡ false) × (judge All f steps End ≡ Verified)
+Ends r f steps answer.Spent =
+    (length steps ≡ r.budget) × (list_all is_addition steps ≡ true) × (list_any adds_empty steps ≡ false) × ((ds : Clause) × IsDueAt r (apply_all All f steps) ds)
 
 -- how many of the steps are no addition of the empty clause
 abbrev pub learned_in : List Step → ℕ
@@ -62,9 +80,9 @@ learned_in [] = 0
 learned_in (s ∷ ss) = if adds_empty s then learned_in ss else suc (learned_in ss)
 
 -- the sink took valid steps that add new clauses, no more than the budget has, and the answer is right after them
-abbrev pub Answers : {S : Type 0} → (S → List Step → Option Step → Type 0) → S → S → List Clause → ℕ → ℕ → Answer → Type 0
-Answers tells old new f n budget a =
-    (steps : List Step) × IsTold tells old new steps None × ValidSteps f steps × Ends f n budget steps a × NewSteps n f steps × (learned_in steps ≤ budget)
+abbrev pub Answers : {S : Type 0} → (S → List Step → Option Step → Type 0) → S → S → List Clause → Rules → Answer → Type 0
+Answers tells old new f r a =
+    (steps : List Step) × IsTold tells old new steps None × ValidSteps f steps × Ends r f steps a × NewSteps r.variables f steps × (learned_in steps ≤ r.budget)
 
 -- the step is valid over f, and its clause new there
 abbrev pub MayComeNext : ℕ → List Clause → Step → Type 0

@@ -8,7 +8,7 @@ ghost use Rattle.sdcl_store.specs.Stores.{clauses_in, AreUpTo};
 ghost use Rattle.sdcl_trail.specs.Levels.{lits_of, decisions};
 ghost use Rattle.sdcl_prop.specs.Seeing.{HoldsClosure};
 ghost use Rattle.sdcl_prop.specs.Fitting.{Covers, Keeps};
-ghost use Rattle.sdcl_outer.specs.Attempts.{Attempted, Exhausts, Settled, AreOver};
+ghost use Rattle.sdcl_outer.specs.Attempts.{Attempted, Exhausts, EndsReduct, AreOver};
 
 use crate::attempted::Attempt;
 use sdcl_base::{NoMemory, ReductMode, greatest_variable};
@@ -72,7 +72,7 @@ fn settle<V: Clauses>(
     requires last { In (live (V.clauses reduct.now)) (complements (decisions trail.now)) }
     requires trail_in_range { trail.now.variables ≤ out.old.room }
     requires room { length (V.clauses reduct.now) + inner_budget < 4294967295 }
-    ensures answer { IfOk result (Settled (live (V.clauses reduct.now)) trail.now inner_budget out.old.room out.new) }
+    ensures answer { IfOk result (EndsReduct (live (V.clauses reduct.now)) trail.now inner_budget out.old.room out.new) }
     ensures room { out.new.room ≡ out.old.room }
 {
     let lits = trail.lits();

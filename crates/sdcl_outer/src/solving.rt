@@ -1,25 +1,24 @@
-//! The solver's loop.
-ghost use Rattle.std.specs.Prelude.{◌≡◌, ◌≤◌, ◌<◌, ◌+◌, length, [], ◌∷◌, ◌++◌, None, true, IfOk, OnOk, OnErr, IsErrOf};
+//! The solver: satisfaction-driven clause learning (Heule, Kiesl, Seidl and Biere, HVC 2017). It goes down by decisions
+//! and unit propagation. At a conflict it learns the clause of the complements of its decisions. Before a decision it may
+//! solve a reduct of the formula at those made: a model of it is a witness that makes the same clause redundant, which is
+//! learned before there is a conflict. Each of its events is one that the machine of events allows, and it is told.
+ghost use Rattle.std.specs.Prelude.{◌≡◌, ◌≤◌, ◌<◌, ◌+◌, length, IfOk, OnOk, OnErr, IsErrOf};
 ghost use Rattle.sdcl_io.specs.World.{Rose};
-ghost use Rattle.sdcl_base.specs.Literal.{complements};
-ghost use Rattle.sdcl_base.specs.Propagation.{refutes};
 ghost use Rattle.sdcl_base.specs.Sets.{WithinVariables};
 ghost use Rattle.sdcl_base.specs.declared.lit.TheConstants.{MAX_VARIABLE};
-ghost use Rattle.sdcl_io.specs.Step.{Add};
 ghost use Rattle.sdcl_store.specs.Stores.{clauses_in};
-ghost use Rattle.sdcl_trail.specs.Levels.{decisions};
-ghost use Rattle.sdcl_io.specs.Telling.{IsTold, MayBeTold};
+ghost use Rattle.sdcl_outer.specs.Coursing.{IsToldAll, Stops};
 ghost use Rattle.sdcl_outer.specs.Outcome.{Answers, Breaks};
-ghost use Rattle.sdcl_inner.specs.Searching.{state_of, IsInOrder, Joins};
-ghost use Rattle.sdcl_outer.specs.Errors.{error_of};
+ghost use Rattle.sdcl_outer.specs.Running.{Runs, StopsOnPath};
+ghost use Rattle.sdcl_outer.specs.Errors.{error_of, rules_of};
 
-use crate::descending::descend;
-use sdcl_base::Assignment;
-use sdcl_inner::blocking::blocking_clause;
+use crate::turning::turn;
+use sdcl_base::{Assignment, ReductMode};
 use sdcl_inner::search::Search;
-use sdcl_inner::values::values_of;
 use sdcl_io::{Failed, ProofOut};
+use sdcl_journal::JournalOut;
 use sdcl_store::Store;
+use sdcl_witness::Witness;
 use std::alloc::Global;
 use thiserror::Error;
 
@@ -28,6 +27,12 @@ use thiserror::Error;
 pub struct Options {
     /// The greatest number of clauses to learn.
     pub budget: u64,
+    /// The reduct that is solved for a witness before a decision, if any.
+    pub reduct: ReductMode,
+    /// The greatest number of decisions at which a reduct is solved.
+    pub depth: u32,
+    /// The greatest number of clauses to learn on a reduct.
+    pub inner_budget: u64,
 }
 
 /// How the solver ended.
@@ -44,7 +49,7 @@ pub enum Answer {
 /// Why the solver stopped before its end.
 #[derive(Clone, Copy, Debug, Drop, PartialEq, Eq, Error)]
 pub enum SolveError {
-    /// The sink could not write a step.
+    /// The sink could not write a step or an event.
     #[error("write fault")]
     WriteFault,
     /// Memory was not found.
@@ -63,9 +68,9 @@ impl From<Failed> for SolveError {
     }
 }
 
-/// Finds an assignment for the variables from 1 to `variables` that meets every clause of the store, or
-/// refutes the clauses by steps that the sink takes.
-pub fn solve<S: ProofOut>(
+/// Finds an assignment for the variables from 1 to `variables` that meets every clause of the store, or refutes the
+/// clauses by steps that the sink takes. The sink is told each event.
+pub fn solve<S: ProofOut + JournalOut>(
     alloc: Global,
     store: Store,
     variables: u32,
@@ -75,56 +80,24 @@ pub fn solve<S: ProofOut>(
     requires ready { S.ready sink.old }
     requires few_variables { variables ≤ MAX_VARIABLE }
     requires within { WithinVariables variables (clauses_in store) }
-    requires room { length store.slots + options.now.budget < 4294967294 }
+    requires room { length store.slots + options.now.budget + options.now.inner_budget < 4294967294 }
     ensures follows { S.follows sink.old sink.new }
     ensures later { S.faults sink.old ≤ S.faults sink.new }
-    ensures aside { S.aside sink.new ≡ S.aside sink.old }
     ensures ready { OnOk result (S.ready sink.new) }
     ensures fault { IsErrOf result SolveError.WriteFault → Rose (S.faults sink.old) (S.faults sink.new) }
-    ensures ok { IfOk result (λ a. Answers S.tells sink.old sink.new (clauses_in store) variables options.now.budget a) }
+    ensures runs { IfOk result (Runs (IsToldAll S.tells S.tells_events sink.old sink.new) (rules_of variables options.now) (clauses_in store)) }
+    ensures ok { IfOk result (Answers S.tells sink.old sink.new (clauses_in store) (rules_of variables options.now)) }
+    ensures stops { OnErr result (StopsOnPath (Stops S.tells S.tells_events sink.old sink.new) (rules_of variables options.now) (clauses_in store)) }
     ensures err { OnErr result (Breaks S.tells sink.old sink.new (clauses_in store) variables options.now.budget) }
 {
     let mut learned: u64 = 0;
+    let mut witness = Witness::new(alloc, variables).map_err(|_| SolveError::NoMemory)?;
     let mut search = Search::new(alloc, store, variables).map_err(|_| SolveError::NoMemory)?;
-    // the store has the formula's clauses and those of the additions that were told, `learned` in all
-    'learning: while descend(&mut search) {
-        if search.trail.level() == 0 {
-            sink.add(&[], &[])?;
-            return Ok(Answer::Refuted);
+    // what was told is a path of the machine, and the search stands where it leads, with `learned` clauses more
+    'learning: loop {
+        if let Some(answer) = turn(alloc, options, learned, &mut search, &mut witness, sink)? {
+            return Ok(answer);
         }
-        if learned == options.budget {
-            return Ok(Answer::Spent);
-        }
-        learn(alloc, &mut search, sink)?;
         learned += 1;
     }
-    let model = values_of(alloc, &search.trail, variables).map_err(|_| SolveError::NoMemory)?;
-    Ok(Answer::Model(model))
-}
-
-// Tells the sink the clause of the complements of the decisions, adds it to the store, and goes back a level.
-fn learn<S: ProofOut>(
-    alloc: Global,
-    search: &mut Search<Store>,
-    sink: &mut S,
-) -> Result<(), SolveError>
-    requires ready { S.ready sink.old }
-    requires in_order { IsInOrder (state_of (λ s. s.slots) search.old) }
-    requires decided { 0 < length search.old.trail.starts }
-    requires room { length search.old.clauses.slots < 4294967295 }
-    ensures follows { S.follows sink.old sink.new }
-    ensures later { S.faults sink.old ≤ S.faults sink.new }
-    ensures aside { S.aside sink.new ≡ S.aside sink.old }
-    ensures ready { OnOk result (S.ready sink.new) }
-    ensures fault { IsErrOf result SolveError.WriteFault → Rose (S.faults sink.old) (S.faults sink.new) }
-    ensures joins { OnOk result (Joins (state_of (λ s. s.slots) search.old) (state_of (λ s. s.slots) search.new)) }
-    ensures told { OnOk result (IsTold S.tells sink.old sink.new (Add (complements (decisions search.old.trail)) ∷ []) None) }
-    ensures torn { OnErr result (MayBeTold S.tells sink.old sink.new (Add (complements (decisions search.old.trail)))) }
-{
-    let clause = blocking_clause(alloc, &search.trail).map_err(|_| SolveError::NoMemory)?;
-    sink.add(clause.as_slice(), &[])?;
-    search
-        .join(clause.as_slice())
-        .map_err(|_| SolveError::NoMemory)?;
-    Ok(())
 }
