@@ -1,6 +1,6 @@
 -- Literals that follow from clauses alone, as clauses come and go.
-use Rattle.std.proofs.Common.{◌≡◌, ◌==◌, ◌<◌, ◌≤◌, ◌+◌, ◌/◌, ℕ, zero, suc, Bool, true, false, cond, List, [], ◌∷◌, ◌++◌, length, length-append, take, get_or, Option, Some, None, refl, sym, ap, subst, ◌∙◌, arith, ◌⊎◌, inl, inr}
-use Rattle.std.specs.Prelude.{IsSome, is_some, unwrap_or, option_map, slice_set}
+use Rattle.std.proofs.Common.{◌≡◌, ◌<◌, ◌≤◌, ◌/◌, ℕ, zero, suc, true, cond, List, [], ◌∷◌, ◌++◌, length, take, get_or, Option, Some, None, refl, sym, ap, subst, ◌∙◌, arith, inl, inr}
+use Rattle.std.specs.Prelude.{IsSome, unwrap_or, option_map}
 use Rattle.std.proofs.lemmas.Bool.{ne_eqb, eq-eqb}
 use Rattle.std.proofs.lemmas.List.{get_or-set_other, get_or_default}
 use Rattle.sdcl_base.specs.Literal.{Literal, Clause, negated, no_variable_twice}
@@ -10,13 +10,13 @@ use Rattle.sdcl_base.specs.declared.lit.ClauseId.{ClauseId}
 use Rattle.sdcl_base.proofs.Apart.{apart_parts}
 use Rattle.sdcl_base.proofs.Closure.{refutes_more}
 use Rattle.sdcl_base.proofs.In.{in_append_left}
-use Rattle.sdcl_store.specs.Slots.{Slots, slot_at, is_alive, clause_of, live, emptied}
+use Rattle.sdcl_store.specs.Slots.{Slots, slot_at, clause_of, live, emptied}
 use Rattle.sdcl_store.specs.Stores.{AreUpTo}
-use Rattle.sdcl_store.proofs.Slots.{live_append, alive_some}
+use Rattle.sdcl_store.proofs.Slots.{live_append}
 use Rattle.sdcl_trail.specs.Levels.{Levels, levels_of, entries, reason_in, reason_at, place_in, IsSound, opened, up_to}
 use Rattle.sdcl_trail.proofs.Arrays.{same_var}
 use Rattle.sdcl_trail.proofs.Placing.{reason_placed}
-use Rattle.sdcl_prop.specs.Fitting.{Kept, Covers, Fits, watch_at}
+use Rattle.sdcl_prop.specs.Fitting.{Kept, Covers, watch_at}
 use Rattle.sdcl_prop.specs.Watching.{no_lit, IsReason, Grows}
 use Rattle.sdcl_prop.proofs.Growing.{grows_more}
 use Rattle.sdcl_prop.proofs.Meaning.{grows_sound, live_at}
@@ -141,8 +141,8 @@ root_gone slots t id s n h = record {
       let l : Literal = get_or t.lits i no_lit in
       let r : IsReason slots (take i t.lits) l (get_or t.reasons i None) = h.forced i j in
       let other : r.id.0 ≡ id.0 → ⊥ = λ e.
-          n l (subst (λ (d : Clause). In d l) (some_same slots r.id.0 r.clause r.at ∙ ap (clause_of slots) e) r.holds)
-          (reason_there t i s j ∙ r.is ∙ ap Some (id_same r.id id e)) in
+      n l (subst (λ (d : Clause). In d l) (some_same slots r.id.0 r.clause r.at ∙ ap (clause_of slots) e) r.holds)
+      (reason_there t i s j ∙ r.is ∙ ap Some (id_same r.id id e)) in
       record { id = r.id; is = r.is; clause = r.clause; at = other_slot slots id.0 r.id.0 other ∙ r.at; holds = r.holds; forced = r.forced };
 }
 

@@ -151,7 +151,10 @@ impl Root {
         if self.refuted {
             return true;
         }
-        self.refuted = self.engine.propagate(&mut self.trail, &self.store).is_some();
+        self.refuted = self
+            .engine
+            .propagate(&mut self.trail, &self.store)
+            .is_some();
         self.refuted
     }
 
@@ -186,13 +189,7 @@ impl Root {
 
     /// Whether each clause is refuted with the complements of this one, or shares a literal with the
     /// witness, where such clauses are passed over.
-    pub fn stands(
-        &mut self,
-        clause: &[Lit],
-        witness: &[Lit],
-        marks: &LitSet,
-        passes: bool,
-    ) -> bool
+    pub fn stands(&mut self, clause: &[Lit], witness: &[Lit], marks: &LitSet, passes: bool) -> bool
         requires rooted { IsRooted self.old }
         requires within { Within self.old.variables clause.now }
         requires room { self.old.variables ≤ room_of marks.now }

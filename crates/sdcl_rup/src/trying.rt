@@ -21,12 +21,7 @@ use sdcl_trail::Trail;
 
 /// Whether the trail's literals with the complements of the clause are refuted. Where they are not,
 /// the trail grows to what follows from them.
-pub(crate) fn suppose(
-    engine: &mut Engine,
-    trail: &mut Trail,
-    store: &Store,
-    clause: &[Lit],
-) -> bool
+pub(crate) fn suppose(engine: &mut Engine, trail: &mut Trail, store: &Store, clause: &[Lit]) -> bool
     requires covers { Covers engine.old store.now.slots }
     requires same { trail.old.variables ≡ engine.old.variables }
     requires within { Within trail.old.variables clause.now }

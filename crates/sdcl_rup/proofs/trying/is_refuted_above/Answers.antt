@@ -1,4 +1,4 @@
-use Rattle.std.proofs.Common.{◌≡◌, ◌∙◌, true, false, sym, subst}
+use Rattle.std.proofs.Common.{◌∙◌, true, false, sym, subst}
 use Rattle.sdcl_base.specs.Literal.{complements, without_complements}
 use Rattle.sdcl_store.specs.Slots.{live}
 use Rattle.sdcl_prop.specs.Assuming.{Assumed}

@@ -1,4 +1,4 @@
-use Rattle.std.proofs.Common.{◌≡◌, ◌∙◌, ◌++◌, sym, ap}
+use Rattle.std.proofs.Common.{◌∙◌, ◌++◌, sym}
 use Rattle.sdcl_base.specs.Literal.{complements}
 use Rattle.sdcl_store.specs.Slots.{live}
 use Rattle.sdcl_rup.proofs.Refuting.{tried_refuted, tried_reached}

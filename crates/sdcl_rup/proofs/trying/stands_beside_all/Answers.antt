@@ -1,6 +1,5 @@
-use Rattle.std.proofs.Common.{◌≡◌, ◌∙◌, Bool, true, false, ap, sym, subst, rules, inl, inr}
+use Rattle.std.proofs.Common.{◌∙◌, Bool, sym, subst, rules, inl, inr}
 use Rattle.std.proofs.lemmas.Bool.{cases_Bool, true≢false}
-use Rattle.std.specs.List.{list_all}
 use Rattle.sdcl_base.specs.Literal.{Clause}
 use Rattle.sdcl_store.specs.Slots.{live, is_alive, clause_of}
 use Rattle.sdcl_prop.proofs.Seeing.{in_live}

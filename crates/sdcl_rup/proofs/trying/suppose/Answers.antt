@@ -1,11 +1,10 @@
 use Rattle.std.proofs.Common.{◌≡◌, ◌∙◌, ◌++◌, true, false, refl, sym, subst, None, Some, Option, inl, inr}
 use Rattle.std.specs.Prelude.{is_some, IfNone}
 use Rattle.std.proofs.lemmas.Bool.{true≢false}
-use Rattle.sdcl_base.specs.Literal.{Clause, complements, same_set}
+use Rattle.sdcl_base.specs.Literal.{complements, same_set}
 use Rattle.sdcl_base.specs.Propagation.{closure}
 use Rattle.sdcl_base.specs.Sets.{Sub}
 use Rattle.sdcl_base.proofs.In.{in_append_cases}
-use Rattle.sdcl_base.specs.declared.lit.ClauseId.{ClauseId}
 use Rattle.sdcl_store.specs.Slots.{live}
 use Rattle.sdcl_prop.specs.Assuming.{Assumed}
 use Rattle.sdcl_prop.proofs.Assumes.{above_sub, above_grows, clash_refutes, assumed_same}

@@ -1,10 +1,10 @@
-use Rattle.std.proofs.Common.{◌≡◌, ◌∙◌, ◌++◌, ◌∷◌, [], ◌≤◌, Some, List, true, false, length, sym, ap, subst, arith, rules}
-use Rattle.sdcl_base.specs.Literal.{Literal, Clause}
+use Rattle.std.proofs.Common.{◌≡◌, ◌∙◌, ◌++◌, ◌∷◌, [], ◌≤◌, Some, List, true, sym, ap, subst, arith}
+use Rattle.sdcl_base.specs.Literal.{Clause}
 use Rattle.sdcl_base.specs.Marks.{firsts}
 use Rattle.sdcl_base.specs.Propagation.{refutes}
 use Rattle.sdcl_base.specs.Sets.{In}
-use Rattle.sdcl_store.specs.Slots.{Slots, clause_of, emptied, live, slot_at}
-use Rattle.sdcl_store.specs.Stores.{Stored, clauses_in}
+use Rattle.sdcl_store.specs.Slots.{Slots, clause_of, emptied, live}
+use Rattle.sdcl_store.specs.Stores.{Stored}
 use Rattle.sdcl_prop.specs.Fitting.{Kept, Covers, Fits, Attaches}
 use Rattle.sdcl_prop.proofs.Changing.{covers_joined, fits_joined}
 use Rattle.sdcl_inner.proofs.Engines.{joined_clause}

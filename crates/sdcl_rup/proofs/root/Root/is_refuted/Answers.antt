@@ -1,5 +1,4 @@
-use Rattle.std.proofs.Common.{◌≡◌, ◌∙◌, ◌++◌, [], true, sym, ap, refl}
-use Rattle.sdcl_base.specs.Propagation.{refutes}
+use Rattle.std.proofs.Common.{◌∙◌, sym, refl}
 use Rattle.sdcl_store.specs.Slots.{live}
 use Rattle.sdcl_rup.proofs.Refuting.{follows_refutes}
 use Rattle.sdcl_rup.proofs.Rootings.{root_sound, root_grows}

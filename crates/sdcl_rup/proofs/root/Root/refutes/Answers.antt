@@ -1,4 +1,4 @@
-use Rattle.std.proofs.Common.{◌≡◌, ◌∙◌, ◌++◌, ◌≤◌, [], true, sym, ap, subst, arith}
+use Rattle.std.proofs.Common.{◌∙◌, ◌≤◌, sym, ap, arith}
 use Rattle.sdcl_base.specs.Propagation.{refutes}
 use Rattle.sdcl_store.specs.Stores.{Stored, clauses_in}
 use Rattle.sdcl_rup.proofs.Listed.{within_in}

@@ -1,5 +1,5 @@
-use Rattle.std.proofs.Common.{◌≡◌, ◌∙◌, ◌++◌, [], true, sym, ap, subst}
-use Rattle.sdcl_base.specs.Literal.{Clause, complements}
+use Rattle.std.proofs.Common.{◌∙◌, ◌++◌, sym, ap}
+use Rattle.sdcl_base.specs.Literal.{complements}
 use Rattle.sdcl_base.specs.Propagation.{refutes}
 use Rattle.sdcl_base.specs.Redundancy.{rup}
 use Rattle.sdcl_store.specs.Stores.{Stored, clauses_in}

@@ -1,7 +1,6 @@
-use Rattle.std.proofs.Common.{◌≡◌, ◌∙◌, ◌++◌, [], true, sym, ap, subst, refl, length}
+use Rattle.std.proofs.Common.{◌≡◌, ◌∙◌, ◌++◌, sym, ap, subst, length}
 use Rattle.std.specs.List.{list_all}
-use Rattle.sdcl_base.specs.Literal.{Clause, complements}
-use Rattle.sdcl_base.specs.Propagation.{refutes}
+use Rattle.sdcl_base.specs.Literal.{complements}
 use Rattle.sdcl_store.specs.Stores.{Stored, clauses_in}
 use Rattle.sdcl_trail.specs.Levels.{Levels, opened}
 use Rattle.sdcl_prop.specs.Assuming.{Above}
