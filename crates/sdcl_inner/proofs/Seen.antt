@@ -147,7 +147,7 @@ held_entries slots f before [] o e i = absurd i
 held_entries slots f before (x ∷ es) o e (inl q) = subst (λ (y : Entry). IsHeld slots y.reason) (sym q) (held_reason slots f before x.lit x.reason o.0)
 held_entries slots f before (x ∷ es) o e (inr i) = held_entries slots f (before ++ x.lit ∷ []) es o.1 e i
 
-flat_seen : (slots : Slots) (ls : List (List Entry)) → seen.entries (map (entries_seen slots) ls) ≡ entries_seen slots (entries ls)
+flat_seen : (slots : Slots) (ls : List (List Entry)) → seen.all_reasoned (map (entries_seen slots) ls) ≡ entries_seen slots (entries ls)
 flat_seen slots [] = refl
 flat_seen slots (l ∷ ls) = ap (λ (x : Level). entries_seen slots l ++ x) (flat_seen slots ls) ∙ sym (map-append (entry_seen slots) l (entries ls))
 
@@ -156,7 +156,7 @@ ordered_levels slots f ds [] h = absurd (no_trail f ds h)
 ordered_levels slots f ds (root ∷ ls) h =
     let a : Fit f ds (entries_seen slots root) (map (entries_seen slots) ls) = fit_parts f ds (entries_seen slots root) (map (entries_seen slots) ls) h in
     subst (Ordered f []) (flat_seen slots (root ∷ ls))
-    (ordered_append f [] (entries_seen slots root) (seen.entries (map (entries_seen slots) ls)) (justified_ordered f [] (entries_seen slots root) a.based)
+    (ordered_append f [] (entries_seen slots root) (seen.all_reasoned (map (entries_seen slots) ls)) (justified_ordered f [] (entries_seen slots root) a.based)
     (levels_ordered f [] (literals (entries_seen slots root)) (map (entries_seen slots) ls) ds a.levels))
 
 same_reason : (slots : Slots) (c : Clause) (o : Option ClauseId) → IsHeld slots o → reason_seen (slots ++ Some c ∷ []) o ≡ reason_seen slots o
@@ -235,14 +235,14 @@ gone_back slots t c k id z s h own new b below =
     sym (take-map (entries_seen joined) (k + 1) (levels_of t)) ∙ ap (λ (x : List Level). take (k + 1) x) (joined_seen slots c t h) ∙ sym cut in
     let reason : entry_seen joined e ≡ reasoned p (Some c) =
     ap (λ n. reasoned p (Some (clause_of joined n))) new ∙ ap (λ (o : Option Clause). reasoned p (Some (unwrap_or o []))) (get_or-append_seam slots (Some c) [] None) in
-    let shown : levels_seen joined (pushed (up_to k t) p (Some id)) ≡ trails.push (take (suc (length xs)) (levels_seen slots t)) (reasoned p (Some c)) =
+    let shown : levels_seen joined (pushed (up_to k t) p (Some id)) ≡ trails.push_reasoned (take (suc (length xs)) (levels_seen slots t)) (reasoned p (Some c)) =
     ap (map (entries_seen joined)) (levels_pushed (up_to k t) p (Some id) below ∙ ap (λ (x : List (List Entry)). push x e) (levels_back t k s high))
     ∙ seen_push joined (take (k + 1) (levels_of t)) e
-    ∙ ap (λ (x : List Level). trails.push x (entry_seen joined e)) lower
-    ∙ ap (λ (x : seen.Entry). trails.push (take (suc (length xs)) (levels_seen slots t)) x) reason in
+    ∙ ap (λ (x : List Level). trails.push_reasoned x (entry_seen joined e)) lower
+    ∙ ap (λ (x : seen.Reasoned). trails.push_reasoned (take (suc (length xs)) (levels_seen slots t)) x) reason in
     let fit : trail_fits (live joined) (take (length xs) (xs ++ d ∷ [])) (levels_seen joined (pushed (up_to k t) p (Some id))) ≡ true =
     subst (λ (x : List Level). trail_fits (live joined) (take (length xs) (xs ++ d ∷ [])) x ≡ true) (sym shown)
-    (subst (λ (g : List Clause). trail_fits g (take (length xs) (xs ++ d ∷ [])) (trails.push (take (suc (length xs)) (levels_seen slots t)) (reasoned p (Some c))) ≡ true) (sym (live_append slots (Some c ∷ []))) j.after) in
+    (subst (λ (g : List Clause). trail_fits g (take (length xs) (xs ++ d ∷ [])) (trails.push_reasoned (take (suc (length xs)) (levels_seen slots t)) (reasoned p (Some c))) ≡ true) (sym (live_append slots (Some c ∷ []))) j.after) in
     record {
       free = subst (λ (x : Clause). names x p ≡ false) (ap (λ (x : List Level). on_trail x) cut ∙ back_lits slots t k s high) j.unassigned;
       fits = fits_over joined (pushed (up_to k t) p (Some id)) (take (length xs) (xs ++ d ∷ [])) fit;
