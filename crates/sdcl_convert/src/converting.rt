@@ -1,5 +1,6 @@
 //! The conversion of a checked proof.
 ghost use Rattle.std.specs.Prelude.{◌≡◌, ◌≤◌, ◌<◌, ◌+◌, ◌++◌, ◌∷◌, [], map, length, IfOk, OnOk, OnErr, IsErrOf};
+ghost use Rattle.sdcl_base.specs.declared.lit.TheConstants.{MAX_VARIABLE};
 ghost use Rattle.sdcl_io.specs.World.{Rose};
 ghost use Rattle.sdcl_io.specs.Step.{All};
 ghost use Rattle.sdcl_proof.specs.Steps.{step_of};
@@ -90,7 +91,7 @@ fn convert_steps<P: ProofOut>(
 
 // The greatest variable after a step.
 fn next_variable(step: &Step, last: u32) -> u32
-    requires { last ≤ 4194303 }
+    requires { last ≤ MAX_VARIABLE }
     ensures { result + 1 ≡ next_variable (step_of step.now) (last + 1) }
 {
     if has_witness(step) { last + 1 } else { last }
