@@ -12,7 +12,7 @@ ghost use Rattle.sdcl_convert.specs.Converting.{Converts, WritesLines, MayBeConv
 
 use crate::checked::{Checked, has_witness};
 use crate::lines::lines_of;
-use crate::writing::{ConvertError, write_lines};
+use crate::writing::{ConvertError, write_step};
 use sdcl_base::{Clause, ClauseId, NoMemory};
 use sdcl_io::ProofOut;
 use sdcl_proof::Step;
@@ -30,7 +30,7 @@ pub struct Converted {
     pub new_variables: u64,
 }
 
-/// WritesLines a proof without witnesses that refutes the formula, line by line. The clauses of the formula and of the
+/// Writes a proof without witnesses that refutes the formula, line by line. The clauses of the formula and of the
 /// lines are kept, and the lines of one step at a time.
 pub fn convert<P: ProofOut>(
     alloc: Global,
@@ -55,7 +55,7 @@ pub fn convert<P: ProofOut>(
     )
 }
 
-// WritesLines the lines of the steps, where `greatest` is above all variables of the formula and the steps.
+// Writes the lines of the steps, where `greatest` is above all variables of the formula and the steps.
 fn convert_steps<P: ProofOut>(
     alloc: Global,
     formula: &Store,
@@ -78,7 +78,7 @@ fn convert_steps<P: ProofOut>(
     let mut lines: u64 = 0;
     for step in steps {
         let more = lines_of(alloc, clauses.as_slice(), step, last + 1)?;
-        write_lines(alloc, more.as_slice(), &mut clauses, out)?;
+        write_step(alloc, step, last + 1, more.as_slice(), &mut clauses, out)?;
         lines = lines.checked_add(more.len() as u64).ok_or(NoMemory)?;
         last = next_variable(step, last);
     }
