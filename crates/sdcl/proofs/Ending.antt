@@ -28,6 +28,7 @@ input_has i s t u trouble.Read w h = omega (arith, h, w.reads i.role)
 input_has i s t u trouble.Write w h = h
 input_has i s t u (trouble.Fault kind offset) w h = h
 input_has i s t u (trouble.Over limit) w h = h
+input_has i s t u (trouble.Variables needed) w h = h
 
 output_has : (o : Output) (s t u : Seen) (x : Trouble) → OnlyStreams t u → OutputHas o s t x → OutputHas o s u x
 output_has o s t u trouble.Open w h =
@@ -36,6 +37,7 @@ output_has o s t u trouble.Read w h = h
 output_has o s t u trouble.Write w h = (omega (arith, h.0, w.later.writes o.role), subst IsTrue (sym (w.there o.role)) h.1)
 output_has o s t u (trouble.Fault kind offset) w h = h
 output_has o s t u (trouble.Over limit) w h = h
+output_has o s t u (trouble.Variables needed) w h = h
 
 unopened : (is : List Input) (s t u : Seen) → OnlyStreams t u → AreUnopened is s t → AreUnopened is s u
 unopened [] s t u w h = tt
@@ -134,6 +136,7 @@ no_input i s t trouble.Read k d o r h = r h
 no_input i s t trouble.Write k d o r h = h
 no_input i s t (trouble.Fault kind offset) k d o r h = k.faulty s kind offset d h
 no_input i s t (trouble.Over limit) k d o r h = k.over s limit d h
+no_input i s t (trouble.Variables needed) k d o r h = k.needs s needed d h
 
 no_inputs : (is : List Input) (s t : Seen) (p : Place) (x : Trouble) → AreLawfulInputs is → AreSound is s → AreRead is s t → AnyInputHas is s t p x → ⊥
 no_inputs [] s t p x k d n h = h
@@ -147,6 +150,7 @@ no_outputs (o ∷ os) s t p trouble.Read n (inl h) = h.has
 no_outputs (o ∷ os) s t p trouble.Write n (inl h) = n.0.1 h.has.0
 no_outputs (o ∷ os) s t p (trouble.Fault kind offset) n (inl h) = h.has
 no_outputs (o ∷ os) s t p (trouble.Over limit) n (inl h) = h.has
+no_outputs (o ∷ os) s t p (trouble.Variables needed) n (inl h) = h.has
 no_outputs (o ∷ os) s t p x n (inr h) = no_outputs os s t p x n.1 h
 
 not_both : true ≡ false → ⊥

@@ -1,5 +1,5 @@
 -- What each command must have, it has: one row a command.
-use Rattle.std.proofs.Common.{◌≡◌, ◌∙◌, inl, inr, ℕ, List, Option, Some, None, Err, IsTrue, refl, sym, subst, arith}
+use Rattle.std.proofs.Common.{◌≡◌, ◌≤◌, ◌∙◌, inl, inr, ℕ, List, Option, Some, None, Err, IsTrue, refl, sym, ap, subst, arith}
 use Rattle.sdcl_base.specs.Literal.{Clause}
 use Rattle.sdcl_io.specs.declared.world.InRole.TheVariants as input
 use Rattle.sdcl_io.specs.declared.world.OutRole.TheVariants as output
@@ -9,6 +9,9 @@ use Rattle.sdcl_dimacs.specs.FormulaText.{FormulaText, Accepted, FormulaFault, F
 use Rattle.sdcl_proof.specs.declared.step.Dialect.{Dialect}
 use Rattle.sdcl_proof.specs.declared.step.Dialect.TheVariants as dialect
 use Rattle.sdcl_proof.specs.Files.{HoldsSteps}
+use Rattle.sdcl_base.specs.declared.lit.TheConstants.{MAX_VARIABLE}
+use Rattle.sdcl_convert.specs.Checked.{needed}
+use Rattle.sdcl_convert.specs.Converting.{lines_for}
 use Rattle.sdcl_prcheck.specs.declared.verdict.Verdict.{Verdict as Found}
 use Rattle.sdcl_prcheck.specs.declared.verdict.Verdict.TheVariants as found
 use Rattle.sdcl.specs.declared.loading.TheConstants.{FORMULA_LIMIT}
@@ -16,11 +19,13 @@ use Rattle.sdcl.specs.declared.verdict.Verdict.{Verdict}
 use Rattle.sdcl.specs.declared.refusal.Refusal.TheVariants.{Usage}
 use Rattle.sdcl.specs.Starting.{IsFresh}
 use Rattle.sdcl.specs.Meaning.{Performs}
-use Rattle.sdcl.specs.Commands.{Names, Plan, Solve, Check, Drat}
+use Rattle.sdcl.specs.Commands.{Names, Plan, Solve, Check, Drat, Convert}
 use Rattle.sdcl.specs.Loading.{StandsFor, IsSoundFormula, FormulaReadOut, formula_in}
-use Rattle.sdcl.specs.Judging.{JudgedAs, IsReadTo, judgement, judgement_in}
+use Rattle.sdcl.specs.Judging.{JudgedAs, IsReadTo, judgement, judgement_in, steps_of}
 use Rattle.sdcl.specs.Solving.{HoldsProof, IsSolved, solving}
 use Rattle.sdcl.specs.Checking.{IsJudgedAs, IsSoundProof, IsVerified, IsChecked, checking_in, proof_in}
+use Rattle.sdcl.specs.Admitting.{AreProofSteps, until_empty}
+use Rattle.sdcl.specs.Converting.{HoldsConversion, IsConverted, IsSoundToConvert, NeedsVariable, proof_to_convert, proven_in, converting}
 use Rattle.sdcl.specs.Running.{meaning_of, refusing}
 use Rattle.sdcl.proofs.Roles.{proof_not_out, proof_not_err}
 use Rattle.sdcl.proofs.Streams.{OnlyStreams, OnlyReads, made_nothing, read_nothing_made, keeps_reading}
@@ -47,6 +52,7 @@ lawful_formula name = record {
   faulty = λ s kind offset d h.
       accepted_is_no_fault d.variables offset kind d.clauses (one_meaning (s.file name) d.bytes (Accepted d.variables d.clauses) (FormulaFault offset kind) d.told d.text h);
   over = λ s limit d h. accepted_is_not_over d.variables d.clauses (one_meaning (s.file name) d.bytes (Accepted d.variables d.clauses) FormulaOver d.told d.text h.1);
+  needs = λ s n d h. h;
 }
 
 verdict_is_no_ending : (v : Found) (ending : Ending) → judgement_in v ≡ Ended ending → ⊥
@@ -66,7 +72,7 @@ not_ended x names s ending d h =
     (one_judgement x (s.file names.proof) d.bytes h.clauses (judgement_in d.found) (Ended ending) d.told (subst (λ g. judgement x g d.bytes ≡ judgement_in d.found) same d.judged) h.judged)
 
 lawful_proof : (x : Dialect) (names : Names) → IsLawfulInput (proof_in x names)
-lawful_proof x names = record { faulty = λ s kind offset d h. not_ended x names s _ d h; over = λ s limit d h. not_ended x names s _ d h.1 }
+lawful_proof x names = record { faulty = λ s kind offset d h. not_ended x names s _ d h; over = λ s limit d h. not_ended x names s _ d h.1; needs = λ s n d h. h }
 
 -- ---- what stays while a line is printed or said
 
@@ -140,6 +146,70 @@ check_lawful d names = record {
   inputs = (lawful_formula names.formula, (lawful_proof d names, tt));
 }
 
+holds_conversion : (names : Names) (name : List ℕ) (s t u : Seen) → OnlyStreams t u → HoldsConversion names name s t → HoldsConversion names name s u
+holds_conversion names name s t u w h =
+    let same : u.held output.Proof ≡ t.held output.Proof = w.outputs output.Proof proof_not_out proof_not_err in
+    record {
+      convertible = h.convertible;
+      made = record {
+        there = subst IsTrue (sym (w.there output.Proof)) h.made.there;
+        file = λ tells. w.files name ∙ h.made.file (subst IsTrue w.later.tells tells) ∙ sym same;
+      };
+      written = record {
+        done = h.written.done;
+        more = h.written.more;
+        torn = h.written.torn;
+        parts = h.written.parts;
+        next = h.written.next;
+        holds = steps_stay t u h.written.done h.written.torn w.later.tells same h.written.holds;
+      };
+    }
+
+converts : (names : Names) (name : List ℕ) (s t u : Seen) (v : Verdict) → OnlyStreams t u → IsConverted names name s t v → IsConverted names name s u v
+unfolding holds_conversion
+converts names name s t u v w h = record {
+  holds = holds_conversion names name s t u w h.holds;
+  counts = h.counts;
+  is = h.is;
+  whole = steps_stay t u (lines_for (proven_in h.holds.convertible.proof)) None w.later.tells (w.outputs output.Proof proof_not_out proof_not_err) h.whole;
+  conversion = h.conversion;
+  unsatisfiable = h.unsatisfiable;
+  read_out = λ tells. subst (FormulaReadOut (s.file names.formula)) (sym (w.inputs input.Formula)) (h.read_out tells);
+}
+
+-- a text has one list of steps
+one_proof : (told : Option (List ℕ)) (bytes : List ℕ) (steps : List Step) → told ≡ Some bytes → AreProofSteps steps told → steps ≡ until_empty (steps_of dialect.Pr bytes).steps
+one_proof None bytes steps e h = absurd cc
+one_proof (Some text) bytes steps e h = let q : text ≡ bytes = cc in h ∙ ap (λ x. until_empty (steps_of dialect.Pr x).steps) q
+
+accepted_count : (variables v : ℕ) (f g : List Clause) → Accepted variables f ≡ Accepted v g → variables ≡ v
+accepted_count variables v f g e = cc
+
+enough_there : (names : Names) (s : Seen) (n : ℕ) → IsSoundToConvert names s → NeedsVariable names s n → ⊥
+enough_there names s n d h =
+    let f : IsSoundFormula names.formula s = d.proof.formula in
+    let count : f.variables ≡ h.proof.variables =
+    accepted_count f.variables h.proof.variables f.clauses h.proof.clauses
+    (one_meaning (s.file names.formula) f.bytes (Accepted f.variables f.clauses) (Accepted h.proof.variables h.proof.clauses) f.told f.text h.proof.text) in
+    let steps : h.proof.steps ≡ until_empty (steps_of dialect.Pr d.proof.bytes).steps = one_proof (s.file names.proof) d.proof.bytes h.proof.steps d.proof.told h.proof.are in
+    let least : needed h.proof.variables h.proof.steps ≤ MAX_VARIABLE = subst (λ ss. needed h.proof.variables ss ≤ MAX_VARIABLE) (sym steps) (subst (λ k. needed k (until_empty (steps_of dialect.Pr d.proof.bytes).steps) ≤ MAX_VARIABLE) count d.enough) in
+    omega (arith, least, h.needed, h.great)
+
+lawful_to_convert : (names : Names) → IsLawfulInput (proof_to_convert names)
+lawful_to_convert names = record {
+  faulty = λ s kind offset d h. not_ended dialect.Pr names s _ d.proof h;
+  over = λ s limit d h. not_ended dialect.Pr names s _ d.proof h.1;
+  needs = enough_there names;
+}
+
+convert_lawful : (names : Names) (name : List ℕ) → IsLawful (converting names name)
+convert_lawful names name = record {
+  gives = λ s t u v w h. elim h [ inl a ↦ inl (converts names name s t u v w a) | inr a ↦ inr (checks dialect.Pr names s t u v w a.0, a.1) ];
+  leaves = λ s t u w h. elim h [ inl a ↦ inl (made_nothing w a) | inr a ↦ inr (holds_conversion names name s t u w a) ];
+  left = λ s t v h. elim h [ inl a ↦ inr a.holds | inr a ↦ inl a.0.made_nothing ];
+  inputs = (lawful_formula names.formula, (lawful_to_convert names, tt));
+}
+
 refusing_lawful : IsLawful refusing
 refusing_lawful = record { gives = λ s t u v w h. h; leaves = λ s t u w h. made_nothing w h; left = λ s t v h. absurd h; inputs = tt }
 
@@ -148,6 +218,7 @@ lawful None = refusing_lawful
 lawful (Some (Solve names)) = solve_lawful names
 lawful (Some (Check names)) = check_lawful dialect.Pr names
 lawful (Some (Drat names)) = check_lawful dialect.Drat names
+lawful (Some (Convert names name)) = convert_lawful names name
 
 -- ---- words that ask for no command
 

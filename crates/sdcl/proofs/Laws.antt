@@ -10,6 +10,7 @@ use Rattle.sdcl.proofs.Streams.{OnlyStreams}
 pub record IsLawfulInput (i : Input) : Type 0 where
   pub faulty : (s : Seen) (kind offset : ℕ) → i.sound s → i.faulty s kind offset → ⊥
   pub over : (s : Seen) (limit : ℕ) → i.sound s → i.over s limit → ⊥
+  pub needs : (s : Seen) (needed : ℕ) → i.sound s → i.needs s needed → ⊥
 
 abbrev pub AreLawfulInputs : List Input → Type 0
 AreLawfulInputs [] = ⊤

@@ -9,4 +9,6 @@ pub mod Laws
 pub mod Ending
 pub mod Solved
 pub mod Checked
+pub mod Admitted
+pub mod Converted
 pub mod Lasting

@@ -79,24 +79,38 @@ judged dialect r s f clauses text left kept (Ok v) new h u d = record {
   refuted = u;
 }
 
+fresh_of : (dialect : Dialect) (r : Stepping) (new : Reading) (text : Option (List ℕ)) (first : Seen) → r ≡ record { words = record { reading = new; at_line_start = true }; dialect = dialect; failed = None }
+    → new ≡ record { world = first; role = Proof; limit = PROOF_LIMIT; given = 0; failed = None; rest = text } → left_in r ≡ text_in dialect new.limit new.rest → Fresh dialect r text
+fresh_of dialect r new text first e q a =
+    let limit : new.limit ≡ PROOF_LIMIT = ap (λ (x : Reading). x.limit) q in
+    let rest : new.rest ≡ text = ap (λ (x : Reading). x.rest) q in
+    record {
+      given = ap (λ (x : Stepping). x.words.reading.given) e ∙ ap (λ (x : Reading). x.given) q;
+      rest = ap (λ (x : Stepping). x.words.reading.rest) e ∙ rest;
+      limit = ap (λ (x : Stepping). x.words.reading.limit) e ∙ limit;
+      dialect = ap (λ (x : Stepping). x.dialect) e;
+      all = a ∙ ap (λ n. text_in dialect n new.rest) limit ∙ ap (text_in dialect PROOF_LIMIT) rest;
+    }
+
+-- what a verdict says, with the steps that the checker took
+pub judged_steps : (dialect : Dialect) (r s : Stepping) (new : Reading) (f clauses : List Clause) (text : Option (List ℕ)) (first seen : Seen) (kept : List ℕ) (v : Verdict)
+    → r ≡ record { words = record { reading = new; at_line_start = true }; dialect = dialect; failed = None }
+    → new ≡ record { world = first; role = Proof; limit = PROOF_LIMIT; given = 0; failed = None; rest = text } → left_in r ≡ text_in dialect new.limit new.rest → (h : Checks f clauses r s (Ok v))
+    → (v ≡ verdict.Verified → Unsatisfiable f) → s.words.reading.rest ≡ prepend_known kept (seen.left s.words.reading.role) → (j : Judged dialect f text (seen.left Proof) v) × (j.steps ≡ h.taken)
+unfolding judged
+judged_steps dialect r s new f clauses text first seen kept v e q a h u d =
+    let role : s.words.reading.role ≡ Proof = h.onward.role ∙ ap (λ (x : Stepping). x.words.reading.role) e ∙ ap (λ (x : Reading). x.role) q in
+    (judged dialect r s f clauses text (seen.left Proof) kept (Ok v) (fresh_of dialect r new text first e q a) h u (d ∙ ap (λ x. prepend_known kept (seen.left x)) role), refl)
+
 -- what the checker's answer says, where the reader's world is seen so
 pub judged_text : (dialect : Dialect) (r s : Stepping) (new : Reading) (f clauses : List Clause) (text : Option (List ℕ)) (first seen : Seen) (kept : List ℕ) (result : Result Verdict ProofError)
     → r ≡ record { words = record { reading = new; at_line_start = true }; dialect = dialect; failed = None }
     → new ≡ record { world = first; role = Proof; limit = PROOF_LIMIT; given = 0; failed = None; rest = text } → left_in r ≡ text_in dialect new.limit new.rest → Checks f clauses r s result
     → IfOk result (λ v. v ≡ verdict.Verified → Unsatisfiable f) → s.words.reading.rest ≡ prepend_known kept (seen.left s.words.reading.role) → JudgesText dialect f text (seen.left Proof) result
 judged_text dialect r s new f clauses text first seen kept result e q a h u d =
-    let limit : new.limit ≡ PROOF_LIMIT = ap (λ (x : Reading). x.limit) q in
-    let rest : new.rest ≡ text = ap (λ (x : Reading). x.rest) q in
-    let all : left_in r ≡ text_in dialect PROOF_LIMIT text = a ∙ ap (λ n. text_in dialect n new.rest) limit ∙ ap (text_in dialect PROOF_LIMIT) rest in
+    let fresh : Fresh dialect r text = fresh_of dialect r new text first e q a in
     let role : s.words.reading.role ≡ Proof = h.onward.role ∙ ap (λ (x : Stepping). x.words.reading.role) e ∙ ap (λ (x : Reading). x.role) q in
     record {
-      answers = subst (IsJudgedOf result f) all h.text;
-      ok = judged dialect r s f clauses text (seen.left Proof) kept result
-          (record {
-            given = ap (λ (x : Stepping). x.words.reading.given) e ∙ ap (λ (x : Reading). x.given) q;
-            rest = ap (λ (x : Stepping). x.words.reading.rest) e ∙ rest;
-            limit = ap (λ (x : Stepping). x.words.reading.limit) e ∙ limit;
-            dialect = ap (λ (x : Stepping). x.dialect) e;
-            all = all;
-          }) h u (d ∙ ap (λ x. prepend_known kept (seen.left x)) role);
+      answers = subst (IsJudgedOf result f) fresh.all h.text;
+      ok = judged dialect r s f clauses text (seen.left Proof) kept result fresh h u (d ∙ ap (λ x. prepend_known kept (seen.left x)) role);
     }

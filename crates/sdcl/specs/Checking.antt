@@ -50,6 +50,7 @@ proof_in dialect names = record {
   before = IsAccepted names.formula;
   faulty = λ s kind offset. IsJudgedAs dialect names s (Ended (Fault offset kind));
   over = λ s limit. (limit ≡ PROOF_LIMIT) × IsJudgedAs dialect names s (Ended Over);
+  needs = λ s n. ⊥;
   sound = IsSoundProof dialect names;
 }
 

@@ -7,6 +7,7 @@ abbrev pub status_code : Status → ℕ
 status_code status.Unknown = 0
 status_code status.Verified = 0
 status_code status.NotVerified = 1
+status_code status.Converted = 0
 status_code status.Usage = 2
 status_code status.Grammar = 3
 status_code status.OpenFault = 4

@@ -16,14 +16,26 @@ pub data Plan : Type 0 where
   Solve : (names : Names) → Plan
   Check : (names : Names) → Plan
   Drat : (names : Names) → Plan
+  Convert : (names : Names) (output : List ℕ) → Plan
 
--- `solve` and two different names, or `check` or `drat` and two names; other words ask for nothing
-abbrev pub plan_of : List (String Global) → Option Plan
-plan_of (w ∷ f ∷ p ∷ []) =
-    if bytes_eq (string_bytes w) (codes "solve") && not (bytes_eq (string_bytes f) (string_bytes p)) then Some (Solve (record { formula = string_bytes f; proof = string_bytes p }))
-    else if bytes_eq (string_bytes w) (codes "check") then Some (Check (record { formula = string_bytes f; proof = string_bytes p }))
-    else if bytes_eq (string_bytes w) (codes "drat") then Some (Drat (record { formula = string_bytes f; proof = string_bytes p }))
+-- `solve` and two different names, or `check` or `drat` and two names
+abbrev pub plan_on_two : List ℕ → List ℕ → List ℕ → Option Plan
+plan_on_two w f p =
+    if bytes_eq w (codes "solve") && not (bytes_eq f p) then Some (Solve (record { formula = f; proof = p }))
+    else if bytes_eq w (codes "check") then Some (Check (record { formula = f; proof = p }))
+    else if bytes_eq w (codes "drat") then Some (Drat (record { formula = f; proof = p }))
     else None
+
+-- `convert` and three names, the last of which differs from the others
+abbrev pub plan_on_three : List ℕ → List ℕ → List ℕ → List ℕ → Option Plan
+plan_on_three w f p o =
+    if bytes_eq w (codes "convert") && (not (bytes_eq o f) && not (bytes_eq o p)) then Some (Convert (record { formula = f; proof = p }) o)
+    else None
+
+-- a command and its names; other words ask for nothing
+abbrev pub plan_of : List (String Global) → Option Plan
+plan_of (w ∷ f ∷ p ∷ []) = plan_on_two (string_bytes w) (string_bytes f) (string_bytes p)
+plan_of (w ∷ f ∷ p ∷ o ∷ []) = plan_on_three (string_bytes w) (string_bytes f) (string_bytes p) (string_bytes o)
 plan_of words = None
 
 -- what a command asks for
@@ -31,9 +43,11 @@ abbrev pub plan_in : Command → Plan
 plan_in (command.Solve f p) = Solve (record { formula = f.now; proof = p.now })
 plan_in (command.Check f p) = Check (record { formula = f.now; proof = p.now })
 plan_in (command.Drat f p) = Drat (record { formula = f.now; proof = p.now })
+plan_in (command.Convert f p o) = Convert (record { formula = f.now; proof = p.now }) o.now
 
--- the files of `solve` have different names
+-- what is written has another name than what is read
 abbrev pub AreApart : Plan → Type 0
 AreApart (Solve names) = names.formula ≡ names.proof → ⊥
 AreApart (Check names) = ⊤
 AreApart (Drat names) = ⊤
+AreApart (Convert names output) = (output ≡ names.formula → ⊥) × (output ≡ names.proof → ⊥)

@@ -87,6 +87,7 @@ proof_over dialect name f = record {
   before = λ s. ⊤;
   faulty = λ s kind offset. JudgedAs dialect f (s.file name) (Ended (Fault offset kind));
   over = λ s limit. (limit ≡ PROOF_LIMIT) × JudgedAs dialect f (s.file name) (Ended Over);
+  needs = λ s n. ⊥;
   sound = λ s. ⊤;
 }
 

@@ -11,4 +11,7 @@ pub mod Judging
 pub mod Solving
 pub mod Checking
 pub mod Drat
+pub mod Admitting
+pub mod Rewriting
+pub mod Converting
 pub mod Running

@@ -48,6 +48,7 @@ formula_in name = record {
   before = λ s. ⊤;
   faulty = λ s kind offset. StandsFor (s.file name) (FormulaFault offset kind);
   over = λ s limit. (limit ≡ FORMULA_LIMIT) × StandsFor (s.file name) FormulaOver;
+  needs = λ s n. ⊥;
   sound = IsSoundFormula name;
 }
 

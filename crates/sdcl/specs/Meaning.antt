@@ -29,6 +29,8 @@ pub record Input : Type 1 where
   pub faulty : Seen → ℕ → ℕ → Type 0
   -- its text is over this limit
   pub over : Seen → ℕ → Type 0
+  -- what is to be made of its text would need this variable, which is too great
+  pub needs : Seen → ℕ → Type 0
   -- its text is told, and in no trouble
   pub sound : Seen → Type 0
 
@@ -57,6 +59,7 @@ InputHas i s t trouble.Read = Rose (s.read_faults i.role) (t.read_faults i.role)
 InputHas i s t trouble.Write = ⊥
 InputHas i s t (trouble.Fault kind offset) = i.faulty s kind offset
 InputHas i s t (trouble.Over limit) = i.over s limit
+InputHas i s t (trouble.Variables needed) = i.needs s needed
 
 -- the output was not made, and the file of its name is as it was
 pub record IsUnmade (o : Output) (s t : Seen) : Type 0 where
@@ -70,6 +73,7 @@ OutputHas o s t trouble.Read = ⊥
 OutputHas o s t trouble.Write = Rose (s.write_faults o.role) (t.write_faults o.role) × IsTrue (t.is_there o.role)
 OutputHas o s t (trouble.Fault kind offset) = ⊥
 OutputHas o s t (trouble.Over limit) = ⊥
+OutputHas o s t (trouble.Variables needed) = ⊥
 
 -- the refusal is a trouble of the input, or want of memory, which is free
 abbrev pub InputRefuses : Input → Seen → Seen → Refusal → Type 0

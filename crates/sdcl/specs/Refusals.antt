@@ -21,6 +21,7 @@ status_of_trouble trouble.Read = status.ReadFault
 status_of_trouble trouble.Write = status.WriteFault
 status_of_trouble (trouble.Fault kind offset) = status.Grammar
 status_of_trouble (trouble.Over limit) = status.Limit
+status_of_trouble (trouble.Variables needed) = status.Limit
 
 -- the status of the run
 abbrev pub status_of : Refusal → Status
@@ -32,6 +33,7 @@ status_of (At p x) = status_of_trouble x
 abbrev pub place_name : Place → List ℕ
 place_name place.Formula = codes "formula"
 place_name place.Proof = codes "proof"
+place_name place.Output = codes "output"
 place_name place.Out = codes "out"
 
 -- what is said of a trouble at the place of this name
@@ -41,6 +43,7 @@ trouble_text name trouble.Read = codes "read fault " ++ name
 trouble_text name trouble.Write = codes "write fault " ++ name
 trouble_text name (trouble.Fault kind offset) = name ++ codes " fault " ++ decimal kind ++ codes " at " ++ decimal offset
 trouble_text name (trouble.Over limit) = name ++ codes " over " ++ decimal limit ++ codes " bytes"
+trouble_text name (trouble.Variables needed) = codes "variables needed " ++ decimal needed
 
 -- the line on standard error
 abbrev pub refusal_line : Refusal → List ℕ

@@ -8,12 +8,13 @@ use Rattle.sdcl.specs.declared.loading.TheConstants.{FORMULA_LIMIT}
 use Rattle.sdcl.specs.declared.judging.TheConstants.{PROOF_LIMIT}
 use Rattle.sdcl.specs.declared.solving.TheConstants.{BUDGET}
 use Rattle.sdcl.specs.declared.texts.TheConstants.{WORDS_ON_LINE}
-use Rattle.sdcl.specs.Commands.{Plan, Solve, Check, Drat, plan_of}
+use Rattle.sdcl.specs.Commands.{Plan, Solve, Check, Drat, Convert, plan_of}
 use Rattle.sdcl.specs.Starting.{MadeNothing}
 use Rattle.sdcl.specs.Meaning.{Meaning}
 use Rattle.sdcl.specs.Solving.{solving}
 use Rattle.sdcl.specs.Checking.{checking}
 use Rattle.sdcl.specs.Drat.{checking_drat}
+use Rattle.sdcl.specs.Converting.{converting}
 
 -- words that ask for no command: nothing is read, made or found
 abbrev pub refusing : Meaning
@@ -25,6 +26,7 @@ meaning_of None = refusing
 meaning_of (Some (Solve names)) = solving names
 meaning_of (Some (Check names)) = checking names
 meaning_of (Some (Drat names)) = checking_drat names
+meaning_of (Some (Convert names output)) = converting names output
 
 -- what the words mean
 abbrev pub meant : List (String Global) → Meaning

@@ -22,6 +22,7 @@ status_of_verdict verdict.Unsatisfiable = status.Unsatisfiable
 status_of_verdict verdict.Unknown = status.Unknown
 status_of_verdict verdict.Verified = status.Verified
 status_of_verdict (verdict.NotVerified k) = status.NotVerified
+status_of_verdict (verdict.Converted steps lines new_variables) = status.Converted
 
 -- the text of the verdict
 abbrev pub text_of_verdict : Verdict → List ℕ
@@ -30,6 +31,8 @@ text_of_verdict verdict.Unsatisfiable = codes "s UNSATISFIABLE\n"
 text_of_verdict verdict.Unknown = codes "s UNKNOWN\n"
 text_of_verdict verdict.Verified = codes "s VERIFIED\n"
 text_of_verdict (verdict.NotVerified k) = codes "s NOT VERIFIED\nc step " ++ decimal k ++ codes "\n"
+text_of_verdict (verdict.Converted steps lines new_variables) =
+    codes "c steps " ++ decimal steps ++ codes "\nc lines " ++ decimal lines ++ codes "\nc new " ++ decimal new_variables ++ codes "\n"
 
 -- the assignment has a value for each variable
 abbrev pub CanPrint : Verdict → Type 0
@@ -38,6 +41,7 @@ CanPrint verdict.Unsatisfiable = ⊤
 CanPrint verdict.Unknown = ⊤
 CanPrint verdict.Verified = ⊤
 CanPrint (verdict.NotVerified k) = ⊤
+CanPrint (verdict.Converted steps lines new_variables) = ⊤
 
 -- a write on standard output failed, or memory was wanted
 abbrev pub IsUnprinted : Seen → Seen → Refusal → Type 0

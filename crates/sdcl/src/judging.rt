@@ -80,7 +80,7 @@ fn judge_open<W: World>(
 }
 
 // The steps of the text that the reader stands at the start of.
-fn steps_of<'w, W: World>(reader: Reader<'w, W>, dialect: Dialect) -> StepReader<'w, W>
+pub(crate) fn steps_of<'w, W: World>(reader: Reader<'w, W>, dialect: Dialect) -> StepReader<'w, W>
     requires fresh { (reading reader).given ≡ 0 }
     requires sound { (reading reader).failed ≡ None }
     ensures same_reference { result.words.reader.world.ghost_name ≡ reader.entry.world.ghost_name }
@@ -101,7 +101,7 @@ fn steps_of<'w, W: World>(reader: Reader<'w, W>, dialect: Dialect) -> StepReader
 }
 
 // The refusal of a proof that could not be read.
-fn refuse(error: ProofError) -> Refusal
+pub(crate) fn refuse(error: ProofError) -> Refusal
     ensures { result ≡ refusal_of error }
 {
     match error {

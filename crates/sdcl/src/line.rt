@@ -4,10 +4,10 @@ ghost use Rattle.std.specs.Prelude.{◌≡◌, ◌≤◌, ◌+◌, ◌++◌, dec
 use itoa::Buffer;
 use std::marker::Model;
 
-/// At most 80 bytes.
+/// At most 100 bytes.
 #[derive(Drop)]
 pub struct Line {
-    bytes: [u8; 80],
+    bytes: [u8; 100],
     len: usize,
 }
 
@@ -18,16 +18,16 @@ impl Model for Line {
 
     ghost view = { λ l. take l.len l.bytes };
 
-    ghost invariant = { λ l. l.len ≤ 80 };
+    ghost invariant = { λ l. l.len ≤ 100 };
 }
 
 impl Line {
     /// The line of one piece.
     pub fn of(piece: &[u8]) -> Line
-        requires { length piece.now ≤ 80 }
+        requires { length piece.now ≤ 100 }
         ensures { result ≡ piece.now }
     {
-        let mut bytes = [0; 80];
+        let mut bytes = [0; 100];
         bytes[..piece.len()].copy_from_slice(piece);
         Line {
             bytes,
@@ -37,7 +37,7 @@ impl Line {
 
     /// The line with a piece more.
     pub fn and(self, piece: &[u8]) -> Line
-        requires { length self + length piece.now ≤ 80 }
+        requires { length self + length piece.now ≤ 100 }
         ensures { result ≡ self ++ piece.now }
     {
         let mut bytes = self.bytes;
@@ -48,7 +48,7 @@ impl Line {
 
     /// The line with a number more, of at most 20 digits.
     pub fn and_number(self, number: u64) -> Line
-        requires { length self ≤ 60 }
+        requires { length self ≤ 80 }
         ensures text { result ≡ self ++ decimal number }
         ensures bound { length result ≤ length self + 20 }
     {

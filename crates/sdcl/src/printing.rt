@@ -28,6 +28,11 @@ pub fn print<W: World>(alloc: Global, world: &mut W, verdict: &Verdict) -> Resul
         Verdict::Unknown => say(world, b"s UNKNOWN\n"),
         Verdict::Verified => say(world, b"s VERIFIED\n"),
         Verdict::NotVerified { step } => say(world, not_verified(*step).bytes()),
+        Verdict::Converted {
+            steps,
+            lines,
+            new_variables,
+        } => say(world, converted(*steps, *lines, *new_variables).bytes()),
     }
 }
 
@@ -37,6 +42,15 @@ fn not_verified(step: u64) -> Line
     Line::of(b"s NOT VERIFIED\nc step ")
         .and_number(step)
         .and(b"\n")
+}
+
+fn converted(steps: u64, lines: u64, new_variables: u64) -> Line
+    ensures { result ≡ text_of_verdict (Verdict.Converted steps lines new_variables) }
+{
+    let line = Line::of(b"c steps ").and_number(steps);
+    let line = line.and(b"\nc lines ").and_number(lines);
+    let line = line.and(b"\nc new ").and_number(new_variables);
+    line.and(b"\n")
 }
 
 // Writes the text whole on standard output.

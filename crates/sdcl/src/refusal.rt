@@ -12,6 +12,7 @@ use sdcl_io::{Failed, OutRole, World, write_all};
 pub enum Place {
     Formula,
     Proof,
+    Output,
     Out,
 }
 
@@ -28,6 +29,8 @@ pub enum Trouble {
     Fault { kind: u8, offset: u64 },
     /// The text is over its limit of so many bytes.
     Over { limit: u64 },
+    /// What is to be made of the text would need this variable, which is too great.
+    Variables { needed: u64 },
 }
 
 /// Why a run ends without a verdict.
@@ -49,6 +52,7 @@ impl Place {
         match self {
             Place::Formula => b"formula",
             Place::Proof => b"proof",
+            Place::Output => b"output",
             Place::Out => b"out",
         }
     }
@@ -67,6 +71,7 @@ impl Refusal {
             Refusal::At(_, Trouble::Write) => Status::WriteFault,
             Refusal::At(_, Trouble::Fault { .. }) => Status::Grammar,
             Refusal::At(_, Trouble::Over { .. }) => Status::Limit,
+            Refusal::At(_, Trouble::Variables { .. }) => Status::Limit,
         }
     }
 
@@ -98,6 +103,10 @@ fn trouble_line(name: &[u8], trouble: Trouble) -> Line
         Trouble::Over { limit } => {
             let line = line.and(name).and(b" over ").and_number(limit);
             line.and(b" bytes").and(b"\n")
+        }
+        Trouble::Variables { needed } => {
+            let line = line.and(b"variables needed ").and_number(needed);
+            line.and(b"\n")
         }
     }
 }

@@ -7,6 +7,7 @@ ghost use Rattle.sdcl.specs.Running.{AreLimits, meant, meaning_of};
 
 use crate::checking::check;
 use crate::commands::{Command, command_of};
+use crate::converting::convert;
 use crate::drat::drat;
 use crate::printing::print;
 use crate::refusal::{Refusal, complain};
@@ -60,5 +61,10 @@ fn perform<W: World>(alloc: Global, world: &mut W, command: Command<'_>) -> Resu
         Command::Solve { formula, proof } => solve(alloc, world, formula, proof),
         Command::Check { formula, proof } => check(alloc, world, formula, proof),
         Command::Drat { formula, proof } => drat(alloc, world, formula, proof),
+        Command::Convert {
+            formula,
+            proof,
+            output,
+        } => convert(alloc, world, formula, proof, output),
     }
 }

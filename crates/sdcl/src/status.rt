@@ -9,6 +9,8 @@ pub enum Status {
     Verified,
     /// The proof does not refute the formula.
     NotVerified,
+    /// The converted proof was written.
+    Converted,
     /// The words name no command.
     Usage,
     /// The text of the formula or of the proof has a fault.
@@ -41,6 +43,7 @@ impl Status {
             Status::Unknown => 0,
             Status::Verified => 0,
             Status::NotVerified => 1,
+            Status::Converted => 0,
             Status::Usage => 2,
             Status::Grammar => 3,
             Status::OpenFault => 4,

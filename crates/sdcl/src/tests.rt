@@ -3,7 +3,9 @@ ghost use Rattle.sdcl_io.specs.Memory.{seen_of};
 ghost use Rattle.sdcl.specs.Starting.{IsFresh};
 
 mod checking;
+mod converting;
 mod drat;
+mod pigeons;
 
 use crate::run::run;
 use sdcl_base::NoMemory;
@@ -26,6 +28,7 @@ struct Ended {
     out: Vec<u8>,
     err: Vec<u8>,
     proof: Option<Vec<u8>>,
+    output: Option<Vec<u8>>,
 }
 
 impl Ended {
@@ -36,6 +39,14 @@ impl Ended {
             _ => false,
         };
         self.code == code && self.out.as_slice() == out && self.err.as_slice() == err && same_proof
+    }
+
+    fn wrote(&self, output: Option<&[u8]>) -> bool {
+        match (&self.output, output) {
+            (Some(held), Some(wanted)) => held.as_slice() == wanted,
+            (None, None) => true,
+            _ => false,
+        }
     }
 
     fn leaves_a_prefix_of(&self, whole: &[u8]) -> bool {
@@ -106,11 +117,16 @@ fn end(
         Some(held) => Some(Vec::from_slice(alloc, held)?),
         None => None,
     };
+    let output = match world.file("o") {
+        Some(held) => Some(Vec::from_slice(alloc, held)?),
+        None => None,
+    };
     Ok(Ended {
         code,
         out: Vec::from_slice(alloc, world.out())?,
         err: Vec::from_slice(alloc, world.err())?,
         proof,
+        output,
     })
 }
 

@@ -9,7 +9,10 @@ use sdcl_base::Assignment;
 #[derive(Drop)]
 pub enum Verdict {
     /// This assignment of the variables from 1 to so many meets every clause.
-    Satisfiable { model: Assignment, variables: u32 },
+    Satisfiable {
+        model: Assignment,
+        variables: u32,
+    },
     /// No assignment meets every clause, and the proof says why.
     Unsatisfiable,
     /// The budget of learned clauses was spent.
@@ -17,7 +20,15 @@ pub enum Verdict {
     /// The proof refutes the formula.
     Verified,
     /// The step of this number is not valid; or it does not stand, and the steps before it refute nothing.
-    NotVerified { step: u64 },
+    NotVerified {
+        step: u64,
+    },
+    /// So many steps of the proof became so many lines, with so many new variables.
+    Converted {
+        steps: u64,
+        lines: u64,
+        new_variables: u64,
+    },
 }
 
 impl Verdict {
@@ -31,6 +42,7 @@ impl Verdict {
             Verdict::Unknown => Status::Unknown,
             Verdict::Verified => Status::Verified,
             Verdict::NotVerified { .. } => Status::NotVerified,
+            Verdict::Converted { .. } => Status::Converted,
         }
     }
 }

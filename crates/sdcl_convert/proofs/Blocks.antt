@@ -11,7 +11,7 @@ use Rattle.sdcl_base.specs.Sets.{In, Sub, SubClauses}
 use Rattle.sdcl_base.proofs.Closure.{closure_holds, closure_closed, refutes_more}
 use Rattle.sdcl_base.proofs.Reducts.{pair_refuted, clause_refuted}
 use Rattle.sdcl_io.specs.Step.{Step, Add, Delete, idle, remove_clause, apply, valid, rat_first, is_empty}
-use Rattle.sdcl_convert.specs.Conversion.{reduced, shaken, reduced_lines, weakened, implied, weakening, block}
+use Rattle.sdcl_convert.specs.Conversion.{reduced, shaken, unshaken, reduced_lines, weakened, implied, weakening, block}
 use Rattle.sdcl_convert.specs.Laws.{Below, AllBelow}
 use Rattle.sdcl_convert.proofs.Good.{Good, good_append, good_end, good_adds, good_deletes, same_set_refl, set_sub, remove_before}
 
@@ -215,10 +215,10 @@ not_empty : (d : Clause) (l : Literal) → is_empty (d ++ l ∷ []) ≡ false
 not_empty [] l = refl
 not_empty (m ∷ d) l = refl
 
-abbrev weak : ℕ → Clause → Clause
+abbrev pub weak : ℕ → Clause → Clause
 weak x e = e ++ pos_lit x ∷ []
 
-abbrev two_lines : ℕ → Clause → List Step
+abbrev pub two_lines : ℕ → Clause → List Step
 two_lines x e = Add (e ++ pos_lit x ∷ []) ∷ Delete e ∷ []
 
 three_end : (a t : List Clause) (e : Clause) (es : List Clause) → a ++ (t ++ e ∷ []) ++ es ≡ a ++ t ++ (e ∷ es)
@@ -243,10 +243,7 @@ third_from sh h x (e ∷ es) u t k =
       ),
     )
 
-abbrev pub unshaken : List Clause → Clause → List Clause
-unshaken f w = filter (λ c. not (shaken w c)) f
-
-third_part : (f : List Clause) (w : Clause) (x : ℕ) (t : List Clause) → Good (f ++ t) (weakening f w x) (unshaken f w ++ t ++ weakened f w x)
+pub third_part : (f : List Clause) (w : Clause) (x : ℕ) (t : List Clause) → Good (f ++ t) (weakening f w x) (unshaken f w ++ t ++ weakened f w x)
 third_part f w x t = third_from (shaken w) (shaken_same w) x (filter (shaken w) f) f t refl
 
 -- ---- part 4
@@ -281,10 +278,10 @@ holds_complement e w l x d i j =
     ]))
 
 -- the clauses that stand before part 4, behind those that are not shaken
-abbrev behind : List Clause → Clause → Clause → ℕ → List Clause
+abbrev pub behind : List Clause → Clause → Clause → ℕ → List Clause
 behind f c w x = reduced_lines f w x ++ (pos_lit x ∷ c) ∷ []
 
-abbrev third_base : List Clause → Clause → Clause → ℕ → List Clause
+abbrev pub third_base : List Clause → Clause → Clause → ℕ → List Clause
 third_base f c w x = unshaken f w ++ behind f c w x ++ weakened f w x
 
 weakened_from : (f : List Clause) (w : Clause) (x : ℕ) (d : Clause) → In (weakened f w x) d → In d (pos_lit x)
@@ -384,7 +381,7 @@ restored_valid e c w d x l i j k h =
       | inr a ↦ subst (In (closure e (complements c))) (sym (r.2 ∙ ap negated a)) n
     ]))
 
-abbrev fourth_base : List Clause → Clause → Clause → ℕ → List Clause
+abbrev pub fourth_base : List Clause → Clause → Clause → ℕ → List Clause
 fourth_base f c w x = third_base f c w x ++ implied w x
 
 implied_there : (f : List Clause) (c w : Clause) (x : ℕ) (l : Literal) → In w l → In (fourth_base f c w x) (l ∷ neg_lit x ∷ [])
@@ -447,7 +444,7 @@ sixth_part f c w x h =
 
 -- ---- part 7
 
-abbrev helpers : List Clause → Clause → Clause → ℕ → List Clause
+abbrev pub helpers : List Clause → Clause → Clause → ℕ → List Clause
 helpers f c w x = reduced_lines f w x ++ (pos_lit x ∷ c) ∷ [] ++ weakened f w x ++ implied w x
 
 -- each of the clauses that go names x
@@ -478,7 +475,7 @@ other_set c d x b (inr i) = false_from_ne_true (same_set c d) (λ h. below_neg x
 seven : (u r o e i s c : List Clause) → u ++ ((r ++ o ++ e ++ i) ++ (s ++ c)) ≡ ((((u ++ (r ++ o) ++ e) ++ i) ++ s) ++ c)
 seven u r o e i s c = simp append_assoc
 
-seventh_part : (f : List Clause) (c w : Clause) (x : ℕ) → AllBelow x f
+pub seventh_part : (f : List Clause) (c w : Clause) (x : ℕ) → AllBelow x f
     → Good ((fourth_base f c w x ++ filter (shaken w) f) ++ c ∷ []) (map Delete (helpers f c w x)) (unshaken f w ++ (filter (shaken w) f ++ c ∷ []))
 seventh_part f c w x b =
     subst (λ z. Good z (map Delete (helpers f c w x)) (unshaken f w ++ (filter (shaken w) f ++ c ∷ [])))

@@ -38,11 +38,13 @@ one_run tells old new n f ss greatest c h e w =
     let v : WritesLines tells old new f ss (first_new (proven_with n f ss)) c = subst (λ x. WritesLines tells old new f ss x c) (first_is n f ss greatest e) w in
     record {
       told = v.told;
-      plain = apart_plain_law All f ss (first_new (proven_with n f ss));
-      refuted = subst (λ x. judge All f (converted_apart All f ss x) End ≡ Verified) (first_is n f ss greatest e) (apart_law All f ss (greatest + 1) m.formula m.steps h.refuted);
-      steps = v.steps;
-      lines = v.lines;
-      new_variables = v.new_variables;
+      is = record {
+        plain = apart_plain_law All f ss (first_new (proven_with n f ss));
+        refuted = subst (λ x. judge All f (converted_apart All f ss x) End ≡ Verified) (first_is n f ss greatest e) (apart_law All f ss (greatest + 1) m.formula m.steps h.refuted);
+        steps = v.steps;
+        lines = v.lines;
+        new_variables = v.new_variables;
+      };
     }
 
 module _ {S : Type 0} (tells : S → List Step → Option Step → Type 0) (old new : S) (n : ℕ) (f : List Clause) (ss : List Step) (greatest : ℕ) (r : Result Converted ConvertError) where

@@ -4,6 +4,7 @@ pub mod Whole
 pub mod Plain
 pub mod Lining
 pub mod Told
+pub mod Leaving
 pub mod Gathering
 pub mod Apart
 pub mod Turning

@@ -6,10 +6,10 @@ use Rattle.std.proofs.lemmas.List.Folds.{list_any-append}
 use Rattle.sdcl_base.specs.Literal.{Clause, pos_lit}
 use Rattle.sdcl_base.proofs.In.{in_append_cases, in_filter_from}
 use Rattle.sdcl_io.specs.Step.{Step, Add, AddWitness, Delete, Deletions, All, idle, apply_all, adds_empty, ValidSteps}
-use Rattle.sdcl_convert.specs.Conversion.{reduced, shaken, reduced_lines, weakened, implied, weakening, block, lines_of, converted, converted_apart, next_variable, has_witness}
+use Rattle.sdcl_convert.specs.Conversion.{reduced, shaken, unshaken, reduced_lines, weakened, implied, weakening, block, lines_of, converted, converted_apart, next_variable, has_witness}
 use Rattle.sdcl_convert.specs.Laws.{IsAddition, Alike, AllBelow, Below, copies}
 use Rattle.sdcl_convert.proofs.Good.{good_apply, good_valid}
-use Rattle.sdcl_convert.proofs.Blocks.{block_good, unshaken}
+use Rattle.sdcl_convert.proofs.Blocks.{block_good}
 use Rattle.sdcl_convert.proofs.Whole.{block_alike}
 
 -- a record, so that antt finds the list from a fact

@@ -11,10 +11,10 @@ use Rattle.sdcl_base.specs.Sets.{In, Sub}
 use Rattle.sdcl_base.proofs.Closure.{SubSets, closure_more_sets, refutes_more_sets}
 use Rattle.sdcl_base.proofs.Reducts.{tail_more}
 use Rattle.sdcl_io.specs.Step.{Step, Add, AddWitness, Delete, Deletions, All, KeepUnits, is_one, idle, remove_clause, apply, apply_all, valid, rat_first, adds_empty, is_empty, End, Judgement, Verified, NotVerified, judge, judge_after, judge_end}
-use Rattle.sdcl_convert.specs.Conversion.{shaken, lines_of, converted, converted_apart, next_variable}
+use Rattle.sdcl_convert.specs.Conversion.{shaken, unshaken, lines_of, converted, converted_apart, next_variable}
 use Rattle.sdcl_convert.specs.Laws.{Below, AllBelow, StepBelow, StepsBelow, one, copies, Alike}
 use Rattle.sdcl_convert.proofs.Good.{Good, good_apply, good_judge, same_set_refl, set_sub, set_from_sub}
-use Rattle.sdcl_convert.proofs.Blocks.{pr_all, unshaken, block_good}
+use Rattle.sdcl_convert.proofs.Blocks.{pr_all, block_good}
 
 -- ---- databases that are equal up to order, clauses taken as sets
 

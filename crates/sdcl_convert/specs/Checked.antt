@@ -4,6 +4,7 @@ use Rattle.std.specs.List.{list_any}
 use Rattle.std.specs.Coded.{Coded, code_by, coded×, coded_ℕ, coded_bool, coded_list, coded_option}
 use Rattle.sdcl_base.specs.Literal.{Clause}
 use Rattle.sdcl_base.specs.Sets.{WithinVariables}
+use Rattle.sdcl_base.specs.declared.lit.TheConstants.{MAX_VARIABLE}
 use Rattle.sdcl_base.specs.contracts.lit.Lit as lit
 use Rattle.sdcl_io.specs.Step.{Step, Add, AddWitness, Delete, All, End, Verified, judge, adds_empty}
 use Rattle.sdcl_proof.specs.Steps.{step_of}
@@ -54,7 +55,7 @@ pub record IsProven (p : Proven) : Type 0 where
   pub within : WithinVariables p.variables p.formula
   pub refuted : judge All p.formula p.steps End ≡ Verified
   pub ends : EndsEmpty p.steps ⊎ (list_any adds_empty p.steps ≡ false)
-  pub enough : needed p.variables p.steps ≤ 4194303
+  pub enough : needed p.variables p.steps ≤ MAX_VARIABLE
 
 -- the same, with the greatest variable of the header, the formula and the steps
 pub record IsProvenUpTo (greatest : ℕ) (p : Proven) : Type 0 where

@@ -2,7 +2,7 @@
 use Rattle.std.specs.Prelude.{ℕ, ◌+◌, Bool, true, false, not, ◌&&◌, List, [], ◌∷◌, ◌++◌, map, if◌then◌else◌}
 use Rattle.std.specs.List.{filter, flat_map}
 use Rattle.sdcl_base.specs.Literal.{Clause, pos_lit, neg_lit, shares, complements, without_complements}
-use Rattle.sdcl_io.specs.Step.{Step, Add, AddWitness, Delete, Deletions, All, idle, apply_all, adds_empty}
+use Rattle.sdcl_io.specs.Step.{Step, Add, AddWitness, Delete, Deletions, All, idle, remove_clause, apply_all, adds_empty}
 
 -- whether w makes d shorter: it makes no literal of d true, and one false
 abbrev pub reduced : Clause → Clause → Bool
@@ -11,6 +11,10 @@ reduced w d = not (shares d w) && shares d (complements w)
 -- whether w makes a literal of e true, and another false
 abbrev pub shaken : Clause → Clause → Bool
 shaken w e = shares e w && shares e (complements w)
+
+-- the clauses that are not shaken
+abbrev pub unshaken : List Clause → Clause → List Clause
+unshaken f w = filter (λ c. not (shaken w c)) f
 
 -- the reduced clauses, with not x and without the literals that w makes false
 abbrev pub reduced_lines : List Clause → Clause → ℕ → List Clause
@@ -44,6 +48,12 @@ unfoldable pub lines_of : Deletions → List Clause → ℕ → Step → List St
 lines_of mode f x (Add c) = Add c ∷ []
 lines_of mode f x (AddWitness c w) = block f c w x
 lines_of mode f x (Delete d) = if idle mode f d then [] else Delete d ∷ []
+
+-- what the lines of a step leave: after a block the shaken clauses stand behind the others
+abbrev pub left_by : List Clause → Step → List Clause
+left_by f (Add c) = f ++ c ∷ []
+left_by f (AddWitness c w) = unshaken f w ++ (filter (shaken w) f ++ c ∷ [])
+left_by f (Delete d) = remove_clause f d
 
 -- the converted proof, where every block uses x
 unfoldable pub converted : Deletions → List Clause → List Step → ℕ → List Step

@@ -1,6 +1,7 @@
 -- What the loading of a proof gives.
-use Rattle.std.specs.Prelude.{◌≡◌, ◌⊎◌, ⊤, ◌<◌, ℕ, false, List, Result, Ok, Err, IfOk, map}
+use Rattle.std.specs.Prelude.{◌≡◌, ◌⊎◌, ⊤, ◌<◌, ◌≤◌, ℕ, false, List, Result, Ok, Err, IfOk, map}
 use Rattle.sdcl_base.specs.Literal.{Clause}
+use Rattle.sdcl_base.specs.declared.lit.TheConstants.{MAX_VARIABLE}
 use Rattle.std.specs.List.{list_any}
 use Rattle.sdcl_io.specs.Step.{Step, All, End, Verified, judge, adds_empty}
 use Rattle.sdcl_proof.specs.Steps.{step_of}
@@ -14,18 +15,23 @@ use Rattle.sdcl_convert.specs.Checked.{needed}
 use Rattle.sdcl_convert.specs.declared.loading.Loaded.{Loaded}
 use Rattle.sdcl_convert.specs.declared.loading.Loaded.TheVariants as loaded
 
+-- what a checker finds of the same proof
+abbrev pub found_in : Loaded → Verdict
+found_in (loaded.Valid c) = verdict.Verified
+found_in (loaded.NotVerified k) = verdict.NotVerified k
+found_in (loaded.TooManyVariables n) = verdict.Verified
+
 -- what a checker says of the same proof
 abbrev pub verdict_of : Result Loaded ProofError → Result Verdict ProofError
-verdict_of (Ok (loaded.Valid c)) = Ok verdict.Verified
-verdict_of (Ok (loaded.NotVerified k)) = Ok (verdict.NotVerified k)
-verdict_of (Ok (loaded.TooManyVariables n)) = Ok verdict.Verified
+verdict_of (Ok l) = Ok (found_in l)
 verdict_of (Err e) = Err e
 
--- The formula and the steps that were taken are kept; or the conversion would need this variable, which is too great.
+-- The formula and the steps that were taken are kept, and there are variables enough; or the conversion would need this variable,
+-- which is too great.
 abbrev pub KeepsProof : ℕ → List Clause → List Step → Loaded → Type 0
-KeepsProof n f taken (loaded.Valid p) = p ≡ record { variables = n; formula = f; steps = taken }
+KeepsProof n f taken (loaded.Valid p) = (p ≡ record { variables = n; formula = f; steps = taken }) × (needed n taken ≤ MAX_VARIABLE)
 KeepsProof n f taken (loaded.NotVerified k) = ⊤
-KeepsProof n f taken (loaded.TooManyVariables m) = (m ≡ needed n taken) × (4194303 < m)
+KeepsProof n f taken (loaded.TooManyVariables m) = (m ≡ needed n taken) × (MAX_VARIABLE < m)
 
 -- it was verified
 abbrev pub SaysVerified : Loaded → Type 0

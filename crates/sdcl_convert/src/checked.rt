@@ -1,6 +1,7 @@
 //! A formula with a proof that refutes it.
 ghost use Rattle.std.specs.Prelude.{◌≡◌, ◌≤◌, ◌<◌, ◌+◌, ℕ, map, length};
 ghost use Rattle.sdcl_base.specs.Sets.{WithinVariables};
+ghost use Rattle.sdcl_base.specs.declared.lit.TheConstants.{MAX_VARIABLE};
 ghost use Rattle.sdcl_proof.specs.Steps.{step_of};
 ghost use Rattle.sdcl_convert.specs.Checked.{greatest_from, greatest_with, greatest_over, witnesses};
 ghost use Rattle.sdcl_convert.specs.Conversion.{has_witness};
@@ -34,9 +35,9 @@ impl Model for Checked {
 
 // The greatest of `least` and all variables of the steps.
 pub(crate) fn greatest_of(least: u32, steps: &[Step]) -> u32
-    requires { least ≤ 4194303 }
+    requires { least ≤ MAX_VARIABLE }
     ensures value { result ≡ greatest_over least (map step_of steps.now) }
-    ensures small { result ≤ 4194303 }
+    ensures small { result ≤ MAX_VARIABLE }
 {
     let mut greatest = least;
     for step in steps {
@@ -46,9 +47,9 @@ pub(crate) fn greatest_of(least: u32, steps: &[Step]) -> u32
 }
 
 fn greatest_with(least: u32, step: &Step) -> u32
-    requires { least ≤ 4194303 }
+    requires { least ≤ MAX_VARIABLE }
     ensures value { result ≡ greatest_with least (step_of step.now) }
-    ensures small { result ≤ 4194303 }
+    ensures small { result ≤ MAX_VARIABLE }
 {
     match step {
         Step::Remove { clause } => greatest_from(least, clause.lits()),
@@ -63,9 +64,9 @@ fn greatest_with(least: u32, step: &Step) -> u32
 }
 
 fn greatest_from(least: u32, lits: &[Lit]) -> u32
-    requires { least ≤ 4194303 }
+    requires { least ≤ MAX_VARIABLE }
     ensures value { result ≡ greatest_from least lits.now }
-    ensures small { result ≤ 4194303 }
+    ensures small { result ≤ MAX_VARIABLE }
 {
     let mut greatest = least;
     for l in lits {

@@ -1,5 +1,6 @@
 //! The conversion of a checked proof.
 ghost use Rattle.std.specs.Prelude.{◌≡◌, ◌≤◌, ◌<◌, ◌+◌, ◌++◌, ◌∷◌, [], map, length, IfOk, OnOk, OnErr, IsErrOf};
+ghost use Rattle.sdcl_base.specs.declared.lit.TheConstants.{MAX_VARIABLE};
 ghost use Rattle.sdcl_io.specs.World.{Rose};
 ghost use Rattle.sdcl_io.specs.Step.{All};
 ghost use Rattle.sdcl_proof.specs.Steps.{step_of};
@@ -11,7 +12,7 @@ ghost use Rattle.sdcl_convert.specs.Converting.{Converts, WritesLines, MayBeConv
 
 use crate::checked::{Checked, has_witness};
 use crate::lines::lines_of;
-use crate::writing::{ConvertError, write_lines};
+use crate::writing::{ConvertError, write_step};
 use sdcl_base::{Clause, ClauseId, NoMemory};
 use sdcl_io::ProofOut;
 use sdcl_proof::Step;
@@ -29,7 +30,7 @@ pub struct Converted {
     pub new_variables: u64,
 }
 
-/// WritesLines a proof without witnesses that refutes the formula, line by line. The clauses of the formula and of the
+/// Writes a proof without witnesses that refutes the formula, line by line. The clauses of the formula and of the
 /// lines are kept, and the lines of one step at a time.
 pub fn convert<P: ProofOut>(
     alloc: Global,
@@ -54,7 +55,7 @@ pub fn convert<P: ProofOut>(
     )
 }
 
-// WritesLines the lines of the steps, where `greatest` is above all variables of the formula and the steps.
+// Writes the lines of the steps, where `greatest` is above all variables of the formula and the steps.
 fn convert_steps<P: ProofOut>(
     alloc: Global,
     formula: &Store,
@@ -77,7 +78,7 @@ fn convert_steps<P: ProofOut>(
     let mut lines: u64 = 0;
     for step in steps {
         let more = lines_of(alloc, clauses.as_slice(), step, last + 1)?;
-        write_lines(alloc, more.as_slice(), &mut clauses, out)?;
+        write_step(alloc, step, last + 1, more.as_slice(), &mut clauses, out)?;
         lines = lines.checked_add(more.len() as u64).ok_or(NoMemory)?;
         last = next_variable(step, last);
     }
@@ -90,7 +91,7 @@ fn convert_steps<P: ProofOut>(
 
 // The greatest variable after a step.
 fn next_variable(step: &Step, last: u32) -> u32
-    requires { last ≤ 4194303 }
+    requires { last ≤ MAX_VARIABLE }
     ensures { result + 1 ≡ next_variable (step_of step.now) (last + 1) }
 {
     if has_witness(step) { last + 1 } else { last }

@@ -7,6 +7,7 @@
 //! with x is left. A block has two lines for each shortened clause and four for each weakened one.
 ghost use Rattle.std.specs.Prelude.{◌≡◌, ◌≤◌, true, [], ◌∷◌, ◌++◌, IfOk, OnOk, map};
 ghost use Rattle.std.specs.List.{filter};
+ghost use Rattle.sdcl_base.specs.declared.lit.TheConstants.{MAX_VARIABLE};
 ghost use Rattle.sdcl_base.specs.Literal.{pos_lit, neg_lit, without_complements};
 ghost use Rattle.sdcl_base.specs.Marks.{no_repeats};
 ghost use Rattle.sdcl_io.specs.Step.{All, Add, AddWitness, Delete};
@@ -35,7 +36,7 @@ pub(crate) fn lines_of(
     x: u32,
 ) -> Result<Vec<Line>, NoMemory>
     requires positive { 1 ≤ x }
-    requires room { has_witness (step_of step.now) ≡ true → x ≤ 4194303 }
+    requires room { has_witness (step_of step.now) ≡ true → x ≤ MAX_VARIABLE }
     requires clauses { AllBelow x clauses.now }
     requires step { StepBelow x (step_of step.now) }
     ensures { IfOk result (λ lines. lines_in lines.items ≡ lines_of All clauses.now x (step_of step.now)) }
@@ -60,7 +61,7 @@ pub(crate) fn lines_of(
 // The positive literal of a variable.
 fn variable(x: u32) -> Lit
     requires low { 1 ≤ x }
-    requires high { x ≤ 4194303 }
+    requires high { x ≤ MAX_VARIABLE }
     ensures { result ≡ pos_lit x }
 {
     match Lit::from_code(2 * x as usize) {

@@ -86,7 +86,7 @@ fn collect<W: World>(
     Ok(Verdict::NotVerified { step: taken + 1 })
 }
 
-// KeepsProof the formula and its proof, if there are variables enough for the conversion.
+// Keeps the formula and its proof, if there are variables enough for the conversion.
 fn keep(variables: u32, formula: Store, steps: Vec<Step>) -> Loaded
     requires few { variables ≤ MAX_VARIABLE }
     requires within { WithinVariables variables (clauses_in formula) }

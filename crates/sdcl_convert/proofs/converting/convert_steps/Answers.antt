@@ -75,8 +75,8 @@ returns-in_err-more-clause-err g c =
     (turn_some (clauses_in c.args.formula.now) c.args.steps.now c.args.greatest c.loop-step.step-index c.step-item.result c.loop-step.clauses.items c.loop-step.last turn)
     c.loop-step.invariant.told)
 
-pub returns-in_err-write_lines-clause-err : goal.returns-in_err-write_lines-clause-err
-returns-in_err-write_lines-clause-err g c =
+pub returns-in_err-write_step-clause-err : goal.returns-in_err-write_step-clause-err
+returns-in_err-write_step-clause-err g c =
     let turn : Turn (clauses_in c.args.formula.now) c.args.steps.now c.args.greatest c.loop-step.step-index c.step-item.result c.loop-step.clauses.items c.loop-step.last = record {
       at = c.loop-step-test.true;
       is = c.step-item.is;
@@ -86,11 +86,11 @@ returns-in_err-write_lines-clause-err g c =
       below = c.loop-step.invariant.below;
     } in
     let lines : lines_in c.as_slice-in-loop-step.result.now ≡ lines_of All c.loop-step.clauses.items (c.loop-step.last + 1) (step_of c.step-item.result) = ap lines_in c.as_slice-in-loop-step.ensures.value ∙ (rw c.as_slice.ensures.value at c.in_ok-more.ensures) in
-    on_err c.from_residual-in_err-write_lines.result (AreFirstOf g.P.ProofOut.tells c.args.out.now c.write_lines.new.out (converted_apart All (clauses_in c.args.formula.now) (map step_of c.args.steps.now) (c.args.greatest + 1)))
-    (first_on g.P.ProofOut.tells c.args.out.now c.loop-step.out c.write_lines.new.out (converted_apart All (clauses_in c.args.formula.now) (map step_of c.args.steps.now) (c.args.greatest + 1)) (done (clauses_in c.args.formula.now) c.args.steps.now c.args.greatest c.loop-step.step-index)
+    on_err c.from_residual-in_err-write_step.result (AreFirstOf g.P.ProofOut.tells c.args.out.now c.write_step.new.out (converted_apart All (clauses_in c.args.formula.now) (map step_of c.args.steps.now) (c.args.greatest + 1)))
+    (first_on g.P.ProofOut.tells c.args.out.now c.loop-step.out c.write_step.new.out (converted_apart All (clauses_in c.args.formula.now) (map step_of c.args.steps.now) (c.args.greatest + 1)) (done (clauses_in c.args.formula.now) c.args.steps.now c.args.greatest c.loop-step.step-index)
     (lines_in c.as_slice-in-loop-step.result.now) (behind c.loop-step.clauses.items c.args.steps.now c.loop-step.step-index c.step-item.result c.loop-step.last)
     (turn_all (clauses_in c.args.formula.now) c.args.steps.now c.args.greatest c.loop-step.step-index c.step-item.result c.loop-step.clauses.items c.loop-step.last (lines_in c.as_slice-in-loop-step.result.now) turn lines)
-    c.loop-step.invariant.told c.in_err-write_lines.ensures.torn)
+    c.loop-step.invariant.told c.in_err-write_step.ensures.torn)
 
 pub returns-in_err-lines-clause-err : goal.returns-in_err-lines-clause-err
 returns-in_err-lines-clause-err g c =
@@ -103,12 +103,12 @@ returns-in_err-lines-clause-err g c =
       below = c.loop-step.invariant.below;
     } in
     let lines : lines_in c.as_slice-in-loop-step.result.now ≡ lines_of All c.loop-step.clauses.items (c.loop-step.last + 1) (step_of c.step-item.result) = ap lines_in c.as_slice-in-loop-step.ensures.value ∙ (rw c.as_slice.ensures.value at c.in_ok-more.ensures) in
-    on_err c.from_residual-in_err-lines.result (AreFirstOf g.P.ProofOut.tells c.args.out.now c.write_lines.new.out (converted_apart All (clauses_in c.args.formula.now) (map step_of c.args.steps.now) (c.args.greatest + 1)))
-    (first_done g.P.ProofOut.tells c.args.out.now c.write_lines.new.out (converted_apart All (clauses_in c.args.formula.now) (map step_of c.args.steps.now) (c.args.greatest + 1))
+    on_err c.from_residual-in_err-lines.result (AreFirstOf g.P.ProofOut.tells c.args.out.now c.write_step.new.out (converted_apart All (clauses_in c.args.formula.now) (map step_of c.args.steps.now) (c.args.greatest + 1)))
+    (first_done g.P.ProofOut.tells c.args.out.now c.write_step.new.out (converted_apart All (clauses_in c.args.formula.now) (map step_of c.args.steps.now) (c.args.greatest + 1))
     (done (clauses_in c.args.formula.now) c.args.steps.now c.args.greatest c.loop-step.step-index ++ lines_in c.as_slice-in-loop-step.result.now) (behind c.loop-step.clauses.items c.args.steps.now c.loop-step.step-index c.step-item.result c.loop-step.last)
     (turn_all (clauses_in c.args.formula.now) c.args.steps.now c.args.greatest c.loop-step.step-index c.step-item.result c.loop-step.clauses.items c.loop-step.last (lines_in c.as_slice-in-loop-step.result.now) turn lines)
-    (told_on g.P.ProofOut.tells c.args.out.now c.loop-step.out c.write_lines.new.out (done (clauses_in c.args.formula.now) c.args.steps.now c.args.greatest c.loop-step.step-index) (lines_in c.as_slice-in-loop-step.result.now) None c.loop-step.invariant.told
-    c.in_ok-write_lines.ensures.told))
+    (told_on g.P.ProofOut.tells c.args.out.now c.loop-step.out c.write_step.new.out (done (clauses_in c.args.formula.now) c.args.steps.now c.args.greatest c.loop-step.step-index) (lines_in c.as_slice-in-loop-step.result.now) None c.loop-step.invariant.told
+    c.in_ok-write_step.ensures.told))
 
 pub loop-step-preserved : goal.loop-step-preserved
 loop-step-preserved g c =
@@ -127,20 +127,20 @@ loop-step-preserved g c =
     added ∙ ap (λ n. c.loop-step.lines + n) (width ∙ sym (ap length c.as_slice-in-loop-step.ensures.value) ∙ sym (length-map c.as_slice-in-loop-step.result.now line_step)) in
     record {
       ready = search rules;
-      follows = g.met.P.ProofOut.follows_on c.args.out.now c.loop-step.out c.write_lines.new.out c.loop-step.invariant.follows c.write_lines.ensures.follows;
+      follows = g.met.P.ProofOut.follows_on c.args.out.now c.loop-step.out c.write_step.new.out c.loop-step.invariant.follows c.write_step.ensures.follows;
       later = search rules;
       aside = search rules;
-      clauses = turn_clauses (clauses_in c.args.formula.now) c.args.steps.now c.args.greatest c.loop-step.step-index c.step-item.result c.loop-step.clauses.items c.write_lines.new.clauses.items c.loop-step.last (lines_in c.as_slice-in-loop-step.result.now) turn lines c.in_ok-write_lines.ensures.applied;
+      clauses = turn_clauses (clauses_in c.args.formula.now) c.args.steps.now c.args.greatest c.loop-step.step-index c.step-item.result c.loop-step.clauses.items c.write_step.new.clauses.items c.loop-step.last (lines_in c.as_slice-in-loop-step.result.now) turn lines c.in_ok-write_step.ensures.applied;
       told =
-          told_as g.P.ProofOut.tells c.args.out.now c.write_lines.new.out _ _
+          told_as g.P.ProofOut.tells c.args.out.now c.write_step.new.out _ _
           (sym (turn_done (clauses_in c.args.formula.now) c.args.steps.now c.args.greatest c.loop-step.step-index c.step-item.result c.loop-step.clauses.items c.loop-step.last (lines_in c.as_slice-in-loop-step.result.now) turn lines))
-          (told_on g.P.ProofOut.tells c.args.out.now c.loop-step.out c.write_lines.new.out (done (clauses_in c.args.formula.now) c.args.steps.now c.args.greatest c.loop-step.step-index) (lines_in c.as_slice-in-loop-step.result.now) None
-          c.loop-step.invariant.told c.in_ok-write_lines.ensures.told);
+          (told_on g.P.ProofOut.tells c.args.out.now c.loop-step.out c.write_step.new.out (done (clauses_in c.args.formula.now) c.args.steps.now c.args.greatest c.loop-step.step-index) (lines_in c.as_slice-in-loop-step.result.now) None
+          c.loop-step.invariant.told c.in_ok-write_step.ensures.told);
       lines = turn_count (clauses_in c.args.formula.now) c.args.steps.now c.args.greatest c.loop-step.step-index c.step-item.result c.loop-step.clauses.items c.loop-step.last c.loop-step.lines c.in_ok-lines.lines (lines_in c.as_slice-in-loop-step.result.now) turn lines c.loop-step.invariant.lines count;
       last = turn_last (clauses_in c.args.formula.now) c.args.steps.now c.args.greatest c.loop-step.step-index c.step-item.result c.loop-step.clauses.items c.loop-step.last c.next_variable-last.result turn c.next_variable-last.ensures;
       below =
-          turn_below (clauses_in c.args.formula.now) c.args.steps.now c.args.greatest c.loop-step.step-index c.step-item.result c.loop-step.clauses.items c.write_lines.new.clauses.items c.loop-step.last c.next_variable-last.result
-          (lines_in c.as_slice-in-loop-step.result.now) turn lines c.in_ok-write_lines.ensures.applied c.next_variable-last.ensures;
+          turn_below (clauses_in c.args.formula.now) c.args.steps.now c.args.greatest c.loop-step.step-index c.step-item.result c.loop-step.clauses.items c.write_step.new.clauses.items c.loop-step.last c.next_variable-last.result
+          (lines_in c.as_slice-in-loop-step.result.now) turn lines c.in_ok-write_step.ensures.applied c.next_variable-last.ensures;
     }
 
 pub returns-in_err-clauses-clause-err : goal.returns-in_err-clauses-clause-err
@@ -160,3 +160,11 @@ returns-clause-ok g c =
       lines = c.loop-step.invariant.lines ∙ ap length whole;
       new_variables = omega (arith, c.loop-step.invariant.last, ap witnesses same);
     }
+
+pub write_step-requires-clause-lines : goal.write_step-requires-clause-lines
+write_step-requires-clause-lines g c = ap lines_in c.as_slice-in-loop-step.ensures.value ∙ (rw c.as_slice.ensures.value at c.in_ok-more.ensures)
+
+pub overflow_add-last-in-loop-step : goal.overflow_add-last-in-loop-step
+overflow_add-last-in-loop-step g c =
+    let small : c.loop-step.last ≤ 4194303 = last_small (clauses_in c.args.formula.now) c.args.steps.now c.args.greatest c.loop-step.step-index c.loop-step.last c.requires.steps (omega arith) c.loop-step.invariant.last in
+    search rules

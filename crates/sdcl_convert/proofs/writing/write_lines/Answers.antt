@@ -1,7 +1,7 @@
 use Rattle.std.proofs.Common.{◌∷◌, [], take, drop, suc, None, rules, refl, arith, sym}
 use Rattle.sdcl_convert.specs.Lines.{lines_in, line_step}
 use Rattle.sdcl_convert.specs.Begun.{AreFirstOf}
-use Rattle.sdcl_convert.proofs.Told.{on_err, apply_none, lines_more, lines_around, lines_applied, told_none, told_on, told_as, torn_at}
+use Rattle.sdcl_convert.proofs.Told.{on_err, lines_more, lines_around, told_none, told_on, told_as, torn_at}
 use Rattle.sdcl_convert.proofs.writing.write_lines.Goals as goal
 
 pub loop-line-init : goal.loop-line-init
@@ -10,7 +10,6 @@ loop-line-init g c = record {
   follows = search (rules, g.P.laws);
   later = omega arith;
   aside = refl;
-  applied = apply_none c.args.clauses.now.items;
   told = told_none g.P.ProofOut.tells c.args.out.now;
 }
 
@@ -20,9 +19,6 @@ loop-line-preserved g c = record {
   follows = g.met.P.ProofOut.follows_on c.args.out.now c.loop-line.out c.write_line.new.out c.loop-line.invariant.follows c.write_line.ensures.follows;
   later = search rules;
   aside = search rules;
-  applied =
-      lines_applied c.args.lines.now c.loop-line.line-index c.line-item.result c.args.clauses.now.items c.loop-line.clauses.items c.write_line.new.clauses.items c.loop-line-test.true c.line-item.is c.loop-line.invariant.applied
-      c.in_ok-write_line.ensures.applied;
   told =
       told_as g.P.ProofOut.tells c.args.out.now c.write_line.new.out _ _ (sym (lines_more c.args.lines.now c.loop-line.line-index c.line-item.result c.loop-line-test.true c.line-item.is))
       (told_on g.P.ProofOut.tells c.args.out.now c.loop-line.out c.write_line.new.out (lines_in (take c.loop-line.line-index c.args.lines.now)) (line_step c.line-item.result ∷ []) None c.loop-line.invariant.told
