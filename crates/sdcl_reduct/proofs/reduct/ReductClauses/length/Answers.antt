@@ -3,30 +3,23 @@ use Rattle.std.proofs.lemmas.List.{length-map}
 use Rattle.sdcl_base.specs.Literal.{complements, negated}
 use Rattle.sdcl_base.specs.Marks.{no_repeats}
 use Rattle.sdcl_store.specs.Slots.{clause_of}
-use Rattle.sdcl_trail.specs.Levels.{lits_of, decisions}
+use Rattle.sdcl_trail.specs.Levels.{decisions}
 use Rattle.sdcl_reduct.specs.Lent.{lent_slots}
 use Rattle.sdcl_prop.proofs.Deciding.{decisions_count, decisions_distinct}
-use Rattle.sdcl_reduct.proofs.Lending.{lent_member, lent_last, lent_within, touched_distinct}
+use Rattle.sdcl_reduct.proofs.Lending.{lent_last, lent_within}
 use Rattle.sdcl_reduct.proofs.reduct.ReductClauses.length.Goals as goal
 
-pub returns-then-id-len-clause-distinct : goal.returns-then-id-len-clause-distinct
-returns-then-id-len-clause-distinct c =
-    let r = c.args.self.now in
-    let d : no_repeats (clause_of r.store.now.slots c.index.result.now.0) ≡ true = ap no_repeats (sym c.literals.ensures.value) ∙ c.literals.ensures.distinct in
-    ap no_repeats (lent_member r.store.now.slots r.trail.now r.ids.items c.args.id.0 c.index.result.now (omega (arith, c.if-id-len.true, c.len.ensures)) c.index.ensures)
-    ∙ touched_distinct (lits_of r.trail.now) (clause_of r.store.now.slots c.index.result.now.0) d
-
-pub returns-else-id-len-clause-count : goal.returns-else-id-len-clause-count
-returns-else-id-len-clause-count c =
+pub returns-else-at-len-clause-count : goal.returns-else-at-len-clause-count
+returns-else-at-len-clause-count c =
     let r = c.args.self.now in
     let last : clause_of (lent_slots r.store.now.slots r.trail.now r.ids.items) c.args.id.0 ≡ complements (decisions r.trail.now) =
-        lent_last r.store.now.slots r.trail.now r.ids.items c.args.id.0 (omega (arith, c.if-id-len.false, c.len.ensures)) (lent_within r.store.now.slots r.trail.now r.ids.items c.args.id.0 c.requires) in
+        lent_last r.store.now.slots r.trail.now r.ids.items c.args.id.0 (omega (arith, c.if-at-len.false, c.len.ensures)) (lent_within r.store.now.slots r.trail.now r.ids.items c.args.id.0 c.requires) in
     let count : c.level.result ≡ length (decisions r.trail.now) = omega (arith, decisions_count r.trail.now r.lent.opens, c.level.ensures.value) in
     count ∙ sym (length-map (decisions r.trail.now) negated) ∙ ap length (sym last)
 
-pub returns-else-id-len-clause-distinct : goal.returns-else-id-len-clause-distinct
-returns-else-id-len-clause-distinct c =
+pub returns-else-at-len-clause-distinct : goal.returns-else-at-len-clause-distinct
+returns-else-at-len-clause-distinct c =
     let r = c.args.self.now in
     let last : clause_of (lent_slots r.store.now.slots r.trail.now r.ids.items) c.args.id.0 ≡ complements (decisions r.trail.now) =
-        lent_last r.store.now.slots r.trail.now r.ids.items c.args.id.0 (omega (arith, c.if-id-len.false, c.len.ensures)) (lent_within r.store.now.slots r.trail.now r.ids.items c.args.id.0 c.requires) in
+        lent_last r.store.now.slots r.trail.now r.ids.items c.args.id.0 (omega (arith, c.if-at-len.false, c.len.ensures)) (lent_within r.store.now.slots r.trail.now r.ids.items c.args.id.0 c.requires) in
     ap no_repeats last ∙ decisions_distinct r.trail.now c.level.ensures.sound.apart
