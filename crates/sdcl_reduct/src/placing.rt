@@ -4,6 +4,7 @@ ghost use Rattle.sdcl_store.specs.Slots.{is_alive};
 ghost use Rattle.sdcl_trail.specs.Levels.{lits_of};
 ghost use Rattle.sdcl_reduct.specs.Places.{touched_places, IsPlaced};
 
+use crate::touching::is_touched;
 use sdcl_base::{ClauseId, Lit, NoMemory};
 use sdcl_store::Store;
 use sdcl_trail::Trail;
@@ -45,7 +46,7 @@ fn place(lits: &[Lit], trail: &Trail, out: &mut Vec<u32>) -> Result<(), NoMemory
 {
     // those of the literals before place `i` are there
     for (i, l) in lits.iter().enumerate() {
-        if trail.value(*l).is_some() {
+        if is_touched(trail, *l) {
             out.push(i as u32).map_err(|_| NoMemory)?;
         }
     }

@@ -1,10 +1,9 @@
-use Rattle.std.proofs.Common.{arith, rules, ◌≡◌, ◌≤◌, ◌<◌, ◌+◌, ◌++◌, true, false, not, List, [], length, sym, ap, subst, ◌∙◌}
-use Rattle.sdcl_base.specs.Literal.{Literal, Clause, shares, complements}
+use Rattle.std.proofs.Common.{arith, rules, ◌≡◌, false, length, sym, ap, subst, ◌∙◌}
+use Rattle.sdcl_base.specs.Literal.{Clause, shares, complements}
 use Rattle.sdcl_base.specs.Sets.{In}
 use Rattle.sdcl_base.specs.Reduct.{untouched}
-use Rattle.sdcl_store.specs.Slots.{is_alive, clause_of, live}
+use Rattle.sdcl_store.specs.Slots.{clause_of}
 use Rattle.sdcl_trail.specs.Levels.{lits_of}
-use Rattle.sdcl_reduct.specs.MemberIds.{is_left}
 use Rattle.sdcl_reduct.proofs.Trying.{opposed_within}
 use Rattle.sdcl_reduct.proofs.Untried.{live_in, none_opposed, unsatisfied_none, touched_member}
 use Rattle.sdcl_reduct.proofs.probing.is_member.Goals as goal
