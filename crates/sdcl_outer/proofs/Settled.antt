@@ -24,7 +24,7 @@ use Rattle.sdcl_witness.specs.Witnesses.{Pair, turned, complements_from, extract
 use Rattle.sdcl_outer.proofs.LongRuns.{long_bound}
 use Rattle.sdcl_outer.specs.declared.attempted.Attempt.{Attempt}
 use Rattle.sdcl_outer.specs.declared.attempted.Attempt.TheVariants as attempt
-use Rattle.sdcl_outer.specs.Attempts.{Settled, Attempted, Exhausts, IsWitness}
+use Rattle.sdcl_outer.specs.Attempts.{EndsReduct, Attempted, Exhausts, IsWitness}
 
 -- ---- lists
 
@@ -153,13 +153,13 @@ witness_from m slots t room v o h k n =
 
 -- ---- the answer
 
-pub settled_attempted : (m : ReductMode) (slots : Slots) (t : Levels) (b : ℕ) (old out : Pair) (r : List Clause) → is_off m ≡ false → HoldsClosure slots t → r ≡ reduct m (live slots) (decisions t)
-    → (a : Attempt) → Settled r t b old out a → Attempted m (live slots) t b out a
-settled_attempted m slots t b old out r o h e attempt.Witnessed s =
+pub settled_attempted : (m : ReductMode) (slots : Slots) (t : Levels) (b room : ℕ) (out : Pair) (r : List Clause) → is_off m ≡ false → HoldsClosure slots t → r ≡ reduct m (live slots) (decisions t)
+    → (a : Attempt) → EndsReduct r t b room out a → Attempted m (live slots) t b out a
+settled_attempted m slots t b room out r o h e attempt.Witnessed s =
     let k : meets s.0 (reduct m (live slots) (decisions t)) ≡ true = subst (λ (x : List Clause). meets s.0 x ≡ true) e s.1 in
-    ((s.0, k), subst (IsWitness (live slots) t) (sym s.3) (witness_from m slots t old.room s.0 o h k s.2))
-settled_attempted m slots t b old out r o h e attempt.NoWitness s = λ k. true≢false (sym k.1 ∙ subst (λ (x : List Clause). meets k.0 x ≡ false) e (s k.0))
-settled_attempted m slots t b old out r o h e (attempt.InnerSpent variables kept) s =
+    ((s.0, k), subst (IsWitness (live slots) t) (sym s.3) (witness_from m slots t room s.0 o h k s.2))
+settled_attempted m slots t b room out r o h e attempt.NoWitness s = λ k. true≢false (sym k.1 ∙ subst (λ (x : List Clause). meets k.0 x ≡ false) e (s k.0))
+settled_attempted m slots t b room out r o h e (attempt.InnerSpent variables kept) s =
     let l : ShowsLong (reduct m (live slots) (decisions t)) (lits_of t) b kept = subst (λ (x : List Clause). ShowsLong x (lits_of t) b kept) e s.1 in
     (s.0, l, long_bound (reduct m (live slots) (decisions t)) (lits_of t) b (kept, l))
 

@@ -9,7 +9,6 @@ use Rattle.sdcl_base.specs.Reduct.{reduct, HasModel, ShowsLong}
 use Rattle.sdcl_base.specs.Laws.{HasWitness}
 use Rattle.sdcl_base.specs.declared.mode.ReductMode.{ReductMode}
 use Rattle.sdcl_base.specs.declared.mode.ReductMode.TheVariants as mode
-use Rattle.sdcl_store.specs.Stores.{Stored, clauses_in}
 use Rattle.sdcl_trail.specs.Levels.{Levels, lits_of, decisions}
 use Rattle.sdcl_witness.specs.Witnesses.{Pair, turned, extracted}
 use Rattle.sdcl_outer.specs.declared.attempted.Attempt.{Attempt}
@@ -41,10 +40,6 @@ Attempted mode f t budget out attempt.NoWitness = ¬ HasModel (reduct_here mode 
 Attempted mode f t budget out (attempt.InnerSpent variables kept) =
     IsLong (reduct_here mode f t) t budget variables kept
 
--- the same over the clauses of a store
-abbrev pub AttemptedOn : ReductMode → Stored → Levels → ℕ → Pair → Attempt → Type 0
-AttemptedOn mode s t budget out a = Attempted mode (clauses_in s) t budget out a
-
 -- where the filtered reduct has no model, no witness over the closure of the decisions makes the
 -- clause of their complements PR
 abbrev pub Exhausts : ReductMode → List Clause → Levels → Attempt → Type 0
@@ -58,10 +53,10 @@ AreOver a r = (d : Clause) (l : Literal) → In r d → In d l → names a l ≡
 
 -- the answer is right of the clauses r, of which the last is that of the complements of the
 -- decisions
-abbrev pub Settled : List Clause → Levels → ℕ → Pair → Pair → Attempt → Type 0
-Settled r t budget old out attempt.Witnessed = (v : ℕ → Bool) × (meets v r ≡ true)
+abbrev pub EndsReduct : List Clause → Levels → ℕ → ℕ → Pair → Attempt → Type 0
+EndsReduct r t budget room out attempt.Witnessed = (v : ℕ → Bool) × (meets v r ≡ true)
     × (turned v (decisions t) ≢ [])
-    × (out ≡ extracted old.room v (decisions t) (lits_of t))
-Settled r t budget old out attempt.NoWitness = Unsatisfiable r
-Settled r t budget old out (attempt.InnerSpent variables kept) =
+    × (out ≡ extracted room v (decisions t) (lits_of t))
+EndsReduct r t budget room out attempt.NoWitness = Unsatisfiable r
+EndsReduct r t budget room out (attempt.InnerSpent variables kept) =
     (variables ≡ length (lits_of t)) × ShowsLong r (lits_of t) budget kept

@@ -8,7 +8,7 @@ ghost use Rattle.sdcl_store.specs.Stores.{clauses_in, AreUpTo};
 ghost use Rattle.sdcl_trail.specs.Levels.{lits_of, decisions};
 ghost use Rattle.sdcl_prop.specs.Seeing.{HoldsClosure};
 ghost use Rattle.sdcl_prop.specs.Fitting.{Covers, Keeps};
-ghost use Rattle.sdcl_outer.specs.Attempts.{AttemptedOn, Exhausts, Settled, AreOver};
+ghost use Rattle.sdcl_outer.specs.Attempts.{Attempted, Exhausts, EndsReduct, AreOver};
 
 #[cfg(test)]
 mod tests;
@@ -41,7 +41,7 @@ pub fn attempt(
     requires store_in_range { AreUpTo out.old.room (clauses_in store.now) }
     requires trail_in_range { trail.old.variables ≤ out.old.room }
     requires room { length store.now.slots + inner_budget < 4294967294 }
-    ensures answer { IfOk result (AttemptedOn mode store.now trail.old inner_budget out.new) }
+    ensures answer { IfOk result (Attempted mode (clauses_in store.now) trail.old inner_budget out.new) }
     ensures exhausts { IfOk result (Exhausts mode (clauses_in store.now) trail.old) }
     ensures room { out.new.room ≡ out.old.room }
     ensures covers { Covers engine.new store.now.slots }
@@ -63,24 +63,24 @@ pub fn attempt(
     }
 }
 
-// Solves the view, and takes the witness from its model.
+// Solves the reduct, and takes the witness from its model.
 fn settle<V: Clauses>(
     alloc: Global,
-    view: &V,
+    reduct: &V,
     trail: &Trail,
-    budget: u64,
+    inner_budget: u64,
     out: &mut Witness,
 ) -> Result<Attempt, NoMemory>
-    requires over { AreOver (lits_of trail.now) (live (V.clauses view.now)) }
-    requires last { In (live (V.clauses view.now)) (complements (decisions trail.now)) }
+    requires over { AreOver (lits_of trail.now) (live (V.clauses reduct.now)) }
+    requires last { In (live (V.clauses reduct.now)) (complements (decisions trail.now)) }
     requires trail_in_range { trail.now.variables ≤ out.old.room }
-    requires room { length (V.clauses view.now) + budget < 4294967295 }
-    ensures answer { IfOk result (Settled (live (V.clauses view.now)) trail.now budget out.old out.new) }
+    requires room { length (V.clauses reduct.now) + inner_budget < 4294967295 }
+    ensures answer { IfOk result (EndsReduct (live (V.clauses reduct.now)) trail.now inner_budget out.old.room out.new) }
     ensures room { out.new.room ≡ out.old.room }
 {
     let lits = trail.lits();
     let variables = greatest_variable(lits);
-    match solve_view(alloc, view, variables, lits, budget)? {
+    match solve_view(alloc, reduct, variables, lits, inner_budget)? {
         InnerAnswer::Model(model) => {
             extract(&model, trail, out);
             Ok(Attempt::Witnessed)

@@ -9,7 +9,7 @@ use Rattle.sdcl_trail.specs.Levels.{Levels, decisions}
 use Rattle.sdcl_prop.specs.Seeing.{HoldsClosure}
 use Rattle.sdcl_prop.proofs.Deciding.{levels_few}
 use Rattle.sdcl_reduct.specs.Lent.{lent_slots}
-use Rattle.sdcl_outer.specs.Attempts.{Settled, Attempted, Exhausts}
+use Rattle.sdcl_outer.specs.Attempts.{EndsReduct, Attempted, Exhausts}
 use Rattle.sdcl_outer.proofs.Settled.{reduct_over, reduct_last, settled_attempted, exhausted, on_ok}
 use Rattle.sdcl_outer.proofs.attempting.attempt.Goals as goal
 
@@ -46,8 +46,8 @@ returns-in_ok-reduct-in-Positive-clause-answer c =
     let r = live (lent_slots lent.store.now.slots lent.trail.now lent.ids.items) in
     let out = c.settle.new.out in
     subst (λ (m : ReductMode). IfOk c.settle.result (Attempted m (live slots) t c.args.inner_budget out)) (sym c.in-Positive.is)
-    (on_ok (Settled r t c.args.inner_budget c.args.out.now out) (Attempted mode.Positive (live slots) t c.args.inner_budget out) c.settle.result
-    (settled_attempted mode.Positive slots t c.args.inner_budget c.args.out.now out r refl c.requires.closure c.in_ok-reduct-in-Positive.ensures.reduct) c.settle.ensures.answer)
+    (on_ok (EndsReduct r t c.args.inner_budget c.args.out.now.room out) (Attempted mode.Positive (live slots) t c.args.inner_budget out) c.settle.result
+    (settled_attempted mode.Positive slots t c.args.inner_budget c.args.out.now.room out r refl c.requires.closure c.in_ok-reduct-in-Positive.ensures.reduct) c.settle.ensures.answer)
 
 pub returns-in_ok-reduct-in-Filtered-clause-answer : goal.returns-in_ok-reduct-in-Filtered-clause-answer
 unfolding reduct
@@ -60,8 +60,8 @@ returns-in_ok-reduct-in-Filtered-clause-answer c =
     let h : HoldsClosure slots t = subst (HoldsClosure slots) (sym c.members.ensures.trail) c.requires.closure in
     subst (λ (m : ReductMode). IfOk c.settle-in-Filtered.result (Attempted m (live slots) c.args.trail.now c.args.inner_budget out)) (sym c.in-Filtered.is)
     (subst (λ (u : Levels). IfOk c.settle-in-Filtered.result (Attempted mode.Filtered (live slots) u c.args.inner_budget out)) c.members.ensures.trail
-    (on_ok (Settled r t c.args.inner_budget c.args.out.now out) (Attempted mode.Filtered (live slots) t c.args.inner_budget out) c.settle-in-Filtered.result
-    (settled_attempted mode.Filtered slots t c.args.inner_budget c.args.out.now out r refl h c.in_ok-reduct-in-Filtered.ensures.reduct) c.settle-in-Filtered.ensures.answer))
+    (on_ok (EndsReduct r t c.args.inner_budget c.args.out.now.room out) (Attempted mode.Filtered (live slots) t c.args.inner_budget out) c.settle-in-Filtered.result
+    (settled_attempted mode.Filtered slots t c.args.inner_budget c.args.out.now.room out r refl h c.in_ok-reduct-in-Filtered.ensures.reduct) c.settle-in-Filtered.ensures.answer))
 
 pub returns-in_ok-reduct-in-Positive-clause-exhausts : goal.returns-in_ok-reduct-in-Positive-clause-exhausts
 returns-in_ok-reduct-in-Positive-clause-exhausts c =
