@@ -34,7 +34,8 @@ IsLong r t budget variables kept =
 
 -- the answer is right of the mode's reduct
 abbrev pub Attempted : ReductMode → List Clause → Levels → ℕ → Pair → Attempt → Type 0
-Attempted mode f t budget out attempt.Witnessed = HasModel (reduct_here mode f t) × IsWitness f t out
+Attempted mode f t budget out attempt.Witnessed =
+    HasModel (reduct_here mode f t) × IsWitness f t out
 Attempted mode f t budget out attempt.NoWitness = ¬ HasModel (reduct_here mode f t)
 Attempted mode f t budget out (attempt.InnerSpent variables kept) =
     IsLong (reduct_here mode f t) t budget variables kept

@@ -10,6 +10,9 @@ ghost use Rattle.sdcl_prop.specs.Seeing.{HoldsClosure};
 ghost use Rattle.sdcl_prop.specs.Fitting.{Covers, Keeps};
 ghost use Rattle.sdcl_outer.specs.Attempts.{Attempted, Exhausts, EndsReduct, AreOver};
 
+#[cfg(test)]
+mod tests;
+
 use crate::attempted::Attempt;
 use sdcl_base::{NoMemory, ReductMode, greatest_variable};
 use sdcl_inner::{InnerAnswer, solve_view};
@@ -54,7 +57,7 @@ pub fn attempt(
         }
         ReductMode::Filtered => {
             let members = members(alloc, store, engine, trail)?;
-            let reduct = filtered(store, trail, members)?;
+            let reduct = filtered(alloc, store, trail, members)?;
             settle(alloc, &reduct, trail, inner_budget, out)
         }
     }

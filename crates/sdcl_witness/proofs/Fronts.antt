@@ -1,8 +1,8 @@
 -- The complements of some literals, one of them in front.
-use Rattle.std.proofs.Common.{◌≡◌, ◌≢◌, ◌≤◌, ◌<◌, ◌+◌, ℕ, Bool, true, false, not, cond, List, [], ◌∷◌, ◌++◌, map, length, take, drop, get_or, slice_get, Option, Some, None, is_some, refl, sym, ap, subst, ◌∙◌, inl, inr, arith, append-nil, append_assoc, length-append}
+use Rattle.std.proofs.Common.{◌≡◌, ◌≤◌, ◌<◌, ◌+◌, ℕ, Bool, true, false, not, cond, List, [], ◌∷◌, ◌++◌, length, take, drop, get_or, slice_get, Option, Some, None, is_some, refl, sym, ap, subst, ◌∙◌, inl, inr, arith, append-nil, length-append}
 use Rattle.std.specs.List.{filter}
 use Rattle.std.proofs.lemmas.Bool.{and_parts, and_from, not-true, not_from_false, cond-true, cond-false, true≢false, cases_lt}
-use Rattle.std.proofs.lemmas.List.{take_more, take-append-drop, length-map, map-append}
+use Rattle.std.proofs.lemmas.List.{take-append-drop, length-map, map-append}
 use Rattle.std.proofs.lemmas.List.{get_or_past}
 use Rattle.sdcl_base.specs.Literal.{Literal, Clause, negated, same, has, without, complements}
 use Rattle.sdcl_base.specs.Truth.{makes_true}
@@ -65,8 +65,8 @@ after_length d c = omega (arith, length-map (without c d) negated)
 pub after_fits : (d : Literal) (c xs ys zs : Clause) → c ≡ (xs ++ ys) ++ zs → In c d → length (complements_after d xs) + length (without ys d) ≤ length c
 after_fits d c xs ys zs e i =
     let w : length (without c d) ≡ (length (without xs d) + length (without ys d)) + length (without zs d) =
-        ap (λ x. length (without x d)) e ∙ ap length (filter_append (λ m. not (same d m)) (xs ++ ys) zs) ∙ length-append (without (xs ++ ys) d) (without zs d)
-        ∙ ap (λ (x : Clause). length x + length (without zs d)) (filter_append (λ m. not (same d m)) xs ys) ∙ ap (λ n. n + length (without zs d)) (length-append (without xs d) (without ys d)) in
+    ap (λ x. length (without x d)) e ∙ ap length (filter_append (λ m. not (same d m)) (xs ++ ys) zs) ∙ length-append (without (xs ++ ys) d) (without zs d)
+    ∙ ap (λ (x : Clause). length x + length (without zs d)) (filter_append (λ m. not (same d m)) xs ys) ∙ ap (λ n. n + length (without zs d)) (length-append (without xs d) (without ys d)) in
     omega (arith, w, without_less d c i, after_length d xs)
 
 -- ---- none twice
@@ -77,18 +77,18 @@ complements_once (m ∷ c) h =
     let p : (not (has c m) ≡ true) × (no_repeats c ≡ true) = and_parts (not (has c m)) (no_repeats c) h in
     and_from (not (has (complements c) (negated m))) (no_repeats (complements c))
     (not_from_false (has (complements c) (negated m)) (absent_from (complements c) (negated m) (λ i.
-        let r : (l : Literal) × In c l × (negated m ≡ negated l) = in_map_from negated c (negated m) i in
-        absent c m (not-true (has c m) p.0) (subst (In c) (sym (negated_negated r.0) ∙ ap negated (sym r.2) ∙ negated_negated m) r.1))))
+    let r : (l : Literal) × In c l × (negated m ≡ negated l) = in_map_from negated c (negated m) i in
+    absent c m (not-true (has c m) p.0) (subst (In c) (sym (negated_negated r.0) ∙ ap negated (sym r.2) ∙ negated_negated m) r.1))))
     (complements_once c p.1)
 
 pub after_once : (d : Literal) (c : Clause) → no_repeats c ≡ true → no_repeats (complements_after d c) ≡ true
 after_once d c h =
     and_from (not (has (complements (without c d)) (negated d))) (no_repeats (complements (without c d)))
     (not_from_false (has (complements (without c d)) (negated d)) (absent_from (complements (without c d)) (negated d) (λ i.
-        let r : (l : Literal) × In (without c d) l × (negated d ≡ negated l) = in_map_from negated (without c d) (negated d) i in
-        let e : r.0 ≡ d = sym (negated_negated r.0) ∙ ap negated (sym r.2) ∙ negated_negated d in
-        let n : not (same d d) ≡ true = subst (λ (l : Literal). not (same d l) ≡ true) e (in_filter_from (λ m. not (same d m)) c r.0 r.1).1 in
-        true≢false (sym n ∙ ap not (same_refl d)))))
+    let r : (l : Literal) × In (without c d) l × (negated d ≡ negated l) = in_map_from negated (without c d) (negated d) i in
+    let e : r.0 ≡ d = sym (negated_negated r.0) ∙ ap negated (sym r.2) ∙ negated_negated d in
+    let n : not (same d d) ≡ true = subst (λ (l : Literal). not (same d l) ≡ true) e (in_filter_from (λ m. not (same d m)) c r.0 r.1).1 in
+    true≢false (sym n ∙ ap not (same_refl d)))))
     (complements_once (without c d) (filter_once (λ m. not (same d m)) c h))
 
 -- ---- the literals that a model makes false

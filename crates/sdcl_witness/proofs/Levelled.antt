@@ -1,5 +1,5 @@
 -- The decisions of a trail, level by level.
-use Rattle.std.proofs.Common.{◌≡◌, ◌≤◌, ◌<◌, ◌+◌, ℕ, true, false, not, List, [], ◌∷◌, ◌++◌, map, length, take, drop, get_or, Option, Some, None, refl, sym, ap, subst, ◌∙◌, inl, inr, arith, append-nil, length-append}
+use Rattle.std.proofs.Common.{◌≡◌, ◌≤◌, ◌<◌, ◌+◌, ℕ, true, not, List, [], ◌∷◌, ◌++◌, map, length, take, drop, Some, None, refl, sym, ap, subst, ◌∙◌, inl, inr, arith, append-nil, length-append}
 use Rattle.std.proofs.lemmas.Bool.{and_parts, and_from, not-true, not_from_false}
 use Rattle.std.proofs.lemmas.List.{take_more, take_all, length-map, length-take, take-append-drop}
 use Rattle.sdcl_base.specs.Literal.{Literal, Clause, negated, has, no_variable_twice}
@@ -56,7 +56,7 @@ pub below_rest : (t : Levels) (k : ℕ) → 1 ≤ k → (rest : Clause) × (deci
 below_rest t k h = (
   firsts_of (drop k (levels_of t)),
   sym (ap decisions_of (take-append-drop k (levels_of t)))
-  ∙ decided_append (take k (levels_of t)) (drop k (levels_of t)) (omega (arith, h, length-take k (levels_of t), levels_count t)),
+      ∙ decided_append (take k (levels_of t)) (drop k (levels_of t)) (omega (arith, h, length-take k (levels_of t), levels_count t)),
 )
 
 -- ---- the decisions are on the trail, and none twice
@@ -102,10 +102,10 @@ firsts_once [] h = refl
 firsts_once ([] ∷ ls) h = firsts_once ls h
 firsts_once ((e ∷ es) ∷ ls) h =
     let p : (not (has (lits (es ++ entries ls)) e.lit) ≡ true) × (no_repeats (lits (es ++ entries ls)) ≡ true) =
-        and_parts (not (has (lits (es ++ entries ls)) e.lit)) (no_repeats (lits (es ++ entries ls))) h in
+    and_parts (not (has (lits (es ++ entries ls)) e.lit)) (no_repeats (lits (es ++ entries ls))) h in
     and_from (not (has (firsts_of ls) e.lit)) (no_repeats (firsts_of ls))
     (not_from_false (has (firsts_of ls) e.lit)
-        (absent_from (firsts_of ls) e.lit (λ i. absent (lits (es ++ entries ls)) e.lit (not-true (has (lits (es ++ entries ls)) e.lit) p.0) (in_behind es (entries ls) e.lit (firsts_in ls e.lit i)))))
+    (absent_from (firsts_of ls) e.lit (λ i. absent (lits (es ++ entries ls)) e.lit (not-true (has (lits (es ++ entries ls)) e.lit) p.0) (in_behind es (entries ls) e.lit (firsts_in ls e.lit i)))))
     (firsts_once ls (once_behind es (entries ls) p.1))
 
 decided_once : (ls : List (List Entry)) → no_repeats (lits (entries ls)) ≡ true → no_repeats (decisions_of ls) ≡ true

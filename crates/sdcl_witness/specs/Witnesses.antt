@@ -5,8 +5,9 @@ use Rattle.std.specs.Coded.{Coded, code_by, coded×, coded_ℕ, coded_list}
 use Rattle.sdcl_base.specs.Literal.{Literal, Clause, negated, without, complements}
 use Rattle.sdcl_base.specs.Truth.{makes_true}
 use Rattle.sdcl_base.specs.Sets.{In}
-use Rattle.sdcl_base.specs.Values.{value_of}
+use Rattle.sdcl_base.specs.Values.{value_of, truth_of}
 use Rattle.sdcl_base.specs.contracts.lit.Lit as lit
+use Rattle.sdcl_trail.specs.Levels.{Levels, decisions}
 
 -- the greatest variable that may come, the clause and the witness
 pub record Pair : Type 0 where
@@ -14,10 +15,13 @@ pub record Pair : Type 0 where
   pub clause : List Literal
   pub lits : List Literal
 
+abbrev lits_code : Coded (List Literal)
+lits_code = coded_list lit.the_row.coded
+
 abbrev pub pair_code : Coded Pair
-pair_code =
-    code_by (ℕ × (List Literal × List Literal)) (coded× coded_ℕ (coded× (coded_list lit.the_row.coded) (coded_list lit.the_row.coded)))
-    (λ w. (w.room, (w.clause, w.lits))) (λ p. record { room = p.0; clause = p.1.0; lits = p.1.1 }) (λ _. refl)
+pair_code = code_by (ℕ × (List Literal × List Literal)) (coded× coded_ℕ (coded× lits_code lits_code))
+    (λ w. (w.room, (w.clause, w.lits)))
+    (λ p. record { room = p.0; clause = p.1.0; lits = p.1.1 }) (λ _. refl)
 
 -- each literal's variable has a value
 abbrev pub IsTotalOn : List (Option Bool) → Clause → Type 0
@@ -49,3 +53,11 @@ extracted room v ds a = record {
   clause = complements_from (turned v ds) ds;
   lits = complements_from (turned v ds) (turned v a);
 }
+
+-- the same, of a model and a trail, in the place of what stood there
+abbrev pub extracted_for : Pair → List (Option Bool) → Levels → Pair
+extracted_for out values t = extracted out.room (truth_of values) (decisions t) t.lits
+
+-- the literals of a that the assignment makes false
+abbrev pub turned_by : List (Option Bool) → Clause → Clause
+turned_by values a = turned (truth_of values) a

@@ -7,7 +7,8 @@ ghost use Rattle.sdcl_base.specs.Truth.{makes_true};
 ghost use Rattle.sdcl_base.specs.Values.{value_of, truth_of};
 ghost use Rattle.sdcl_base.specs.Marks.{no_repeats};
 ghost use Rattle.sdcl_trail.specs.Levels.{decisions};
-ghost use Rattle.sdcl_witness.specs.Witnesses.{IsTotalOn, turned, complements_after, extracted};
+ghost use Rattle.sdcl_witness.specs.Witnesses.{IsTotalOn, turned_by};
+ghost use Rattle.sdcl_witness.specs.Witnesses.{complements_after, extracted_for};
 
 use crate::witness::Witness;
 use sdcl_base::{Assignment, Lit};
@@ -18,9 +19,9 @@ use sdcl_trail::Trail;
 /// on which they differ is the first literal of both; the others keep their order.
 pub fn extract(model: &Assignment, trail: &Trail, out: &mut Witness)
     requires total { IsTotalOn model.now trail.now.lits }
-    requires differs { turned (truth_of model.now) (decisions trail.now) ≢ [] }
+    requires differs { turned_by model.now (decisions trail.now) ≢ [] }
     requires room { trail.now.variables ≤ out.old.room }
-    ensures { out.new ≡ extracted out.old.room (truth_of model.now) (decisions trail.now) trail.now.lits }
+    ensures { out.new ≡ extracted_for out.old model.now trail.now }
 {
     let first = lowest_turned(model, trail);
     put_decisions(trail, first, &mut out.clause);
@@ -30,8 +31,8 @@ pub fn extract(model: &Assignment, trail: &Trail, out: &mut Witness)
 // The lowest decision that the model makes false.
 fn lowest_turned(model: &Assignment, trail: &Trail) -> Lit
     requires total { IsTotalOn model.now trail.now.lits }
-    requires differs { turned (truth_of model.now) (decisions trail.now) ≢ [] }
-    ensures { slice_get (turned (truth_of model.now) (decisions trail.now)) 0 ≡ Some result }
+    requires differs { turned_by model.now (decisions trail.now) ≢ [] }
+    ensures { slice_get (turned_by model.now (decisions trail.now)) 0 ≡ Some result }
 {
     // the model makes the decisions below `level` true
     for level in 1..trail.level() + 1 {
@@ -65,9 +66,9 @@ fn put_decisions(trail: &Trail, first: Lit, out: &mut Vec<Lit>)
 // The complement of one literal that the model makes false, and behind it those of the others.
 fn put_turned(model: &Assignment, trail: &Trail, first: Lit, out: &mut Vec<Lit>)
     requires total { IsTotalOn model.now trail.now.lits }
-    requires first { In (turned (truth_of model.now) trail.now.lits) first }
+    requires first { In (turned_by model.now trail.now.lits) first }
     requires room { trail.now.variables ≤ vec_capacity out.old }
-    ensures lits { out.new.items ≡ complements_after first (turned (truth_of model.now) trail.now.lits) }
+    ensures lits { out.new.items ≡ complements_after first (turned_by model.now trail.now.lits) }
     ensures distinct { no_repeats out.new.items ≡ true }
     ensures room { vec_capacity out.old ≤ vec_capacity out.new }
 {

@@ -1,4 +1,3 @@
-use Rattle.std.proofs.Common.{◌≡◌, sym, ap, ◌∙◌}
 use Rattle.sdcl_base.specs.Values.{truth_of}
 use Rattle.sdcl_base.proofs.In.{in_filter_from}
 use Rattle.sdcl_base.specs.Truth.{makes_true}
@@ -6,7 +5,7 @@ use Rattle.std.proofs.Common.{not}
 use Rattle.sdcl_trail.specs.Levels.{decisions}
 use Rattle.sdcl_witness.specs.Witnesses.{turned}
 use Rattle.sdcl_witness.proofs.Levelled.{decisions_in}
-use Rattle.sdcl_witness.proofs.Fronts.{first_in, turned_in, from_first}
+use Rattle.sdcl_witness.proofs.Fronts.{first_in, turned_in}
 use Rattle.sdcl_witness.proofs.extracting.extract.Goals as goal
 
 pub put_decisions-requires-clause-first : goal.put_decisions-requires-clause-first

@@ -1,10 +1,10 @@
-use Rattle.std.proofs.Common.{arith, ◌≡◌, ◌≤◌, ◌+◌, inl, refl, ◌∷◌, ◌++◌, [], Some, None, option_map, length, slice_get, true, false, not, subst, sym, ap, ◌∙◌}
-use Rattle.sdcl_base.specs.Literal.{Literal, Clause}
+use Rattle.std.proofs.Common.{arith, ◌≡◌, ◌≤◌, ◌+◌, inl, refl, ◌∷◌, ◌++◌, [], length, slice_get, not, subst, sym, ap, ◌∙◌}
+use Rattle.sdcl_base.specs.Literal.{Clause}
 use Rattle.sdcl_base.specs.Sets.{In}
 use Rattle.sdcl_base.specs.Truth.{makes_true}
 use Rattle.sdcl_base.specs.Values.{truth_of}
 use Rattle.sdcl_base.proofs.In.{in_append_left, in_append_right}
-use Rattle.sdcl_trail.specs.Levels.{decisions, level_at, first_of}
+use Rattle.sdcl_trail.specs.Levels.{decisions}
 use Rattle.sdcl_witness.specs.Witnesses.{turned}
 use Rattle.sdcl_witness.proofs.Levelled.{below, below_yes, below_no, below_none, below_all, below_rest, decisions_in}
 use Rattle.sdcl_witness.proofs.Fronts.{filter_append, turned_yes, turned_no, front_first}
@@ -34,7 +34,7 @@ returns-then-is_false c =
     let rest : (r : Clause) × (decisions t ≡ below t (k + 1) ++ r) = below_rest t (k + 1) (omega arith) in
     ap (λ (x : Clause). slice_get x 0)
     (ap (turned v) (rest.1 ∙ ap (λ (x : Clause). x ++ rest.0) more) ∙ filter_append (λ l. not (makes_true v l)) (below t k ++ d ∷ []) rest.0
-        ∙ ap (λ (x : Clause). x ++ turned v rest.0) (turned_yes v (below t k) d (sym c.is_false.ensures ∙ c.if-is_false.true)))
+    ∙ ap (λ (x : Clause). x ++ turned v rest.0) (turned_yes v (below t k) d (sym c.is_false.ensures ∙ c.if-is_false.true)))
     ∙ front_first (turned v (below t k)) (turned v rest.0) d c.loop-level.invariant
 
 pub loop-level-preserved : goal.loop-level-preserved

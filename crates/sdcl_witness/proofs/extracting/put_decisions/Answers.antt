@@ -1,7 +1,6 @@
-use Rattle.std.proofs.Common.{arith, ◌≡◌, ◌≤◌, ◌+◌, ◌∷◌, ◌++◌, [], Some, None, length, true, false, not, subst, sym, ap, ◌∙◌, inl, refl, rules, vec_capacity}
-use Rattle.sdcl_base.specs.Literal.{Literal, Clause, negated, complements, without}
+use Rattle.std.proofs.Common.{arith, ◌≡◌, ◌≤◌, ◌+◌, ◌∷◌, ◌++◌, [], length, sym, ap, ◌∙◌}
+use Rattle.sdcl_base.specs.Literal.{Clause, complements, without}
 use Rattle.sdcl_base.specs.Marks.{no_repeats}
-use Rattle.sdcl_base.specs.Sets.{In}
 use Rattle.sdcl_trail.specs.Levels.{decisions}
 use Rattle.sdcl_witness.specs.Witnesses.{complements_after}
 use Rattle.sdcl_witness.proofs.Levelled.{below, below_yes, below_no, below_none, below_all, below_rest, decisions_in, decisions_few, decisions_once}
@@ -29,7 +28,7 @@ put_other-requires c =
     let more : below t (k + 1) ≡ below t k ++ d ∷ [] = below_yes t k d c.loop-level.auto.level (omega (arith, c.loop-level-test.true, c.level-end.ensures.value)) (sym c.decision.ensures ∙ c.in-Some.is) in
     let rest : (r : Clause) × (decisions t ≡ below t (k + 1) ++ r) = below_rest t (k + 1) (omega arith) in
     let fits : length (complements_after c.args.first (below t k)) + length (without (d ∷ []) c.args.first) ≤ length (decisions t) =
-        after_fits c.args.first (decisions t) (below t k) (d ∷ []) rest.0 (rest.1 ∙ ap (λ (x : Clause). x ++ rest.0) more) c.requires.first in
+    after_fits c.args.first (decisions t) (below t k) (d ∷ []) rest.0 (rest.1 ∙ ap (λ (x : Clause). x ++ rest.0) more) c.requires.first in
     omega (arith, fits, ap length c.loop-level.invariant.lits, decisions_few t, c.level-end.ensures.sound.fits, c.requires.room, c.loop-level.invariant.room)
 
 pub loop-level-preserved : goal.loop-level-preserved
@@ -47,9 +46,9 @@ loop-level-preserved c =
             room = rw w.out-is (omega (arith, w.put_other.ensures.room, c.loop-level.invariant.room));
           }
       | in_default w ↦ record {
-          lits = ap (λ v. v.items) w.out-is ∙ c.loop-level.invariant.lits ∙ ap (complements_after c.args.first) (sym (below_no t k c.loop-level.auto.level high (sym c.decision.ensures ∙ w.in_default.is)));
-          room = rw w.out-is c.loop-level.invariant.room;
-        }
+        lits = ap (λ v. v.items) w.out-is ∙ c.loop-level.invariant.lits ∙ ap (complements_after c.args.first) (sym (below_no t k c.loop-level.auto.level high (sym c.decision.ensures ∙ w.in_default.is)));
+        room = rw w.out-is c.loop-level.invariant.room;
+      }
     ]
 
 pub returns-clause-lits : goal.returns-clause-lits

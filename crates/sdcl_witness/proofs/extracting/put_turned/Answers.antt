@@ -1,4 +1,4 @@
-use Rattle.std.proofs.Common.{arith, ◌≡◌, ◌≤◌, ◌<◌, ◌+◌, ◌∷◌, ◌++◌, [], length, take, drop, get_or, true, not, subst, sym, ap, ◌∙◌, rules}
+use Rattle.std.proofs.Common.{arith, ◌≡◌, ◌≤◌, ◌<◌, ◌+◌, ◌∷◌, ◌++◌, [], length, take, drop, get_or, true, not, sym, ap, ◌∙◌, rules}
 use Rattle.std.proofs.lemmas.List.{take_more, take_all}
 use Rattle.sdcl_base.specs.Literal.{Literal, Clause, without}
 use Rattle.sdcl_base.specs.Marks.{no_repeats}
@@ -35,10 +35,10 @@ put_other-requires c =
     let b : i < length lits = search rules in
     let e : l ≡ get_or lits i l = search rules in
     let more : turned v (take (i + 1) lits) ≡ turned v (take i lits) ++ l ∷ [] =
-        ap (turned v) (take_more lits i l b ∙ ap (λ (m : Literal). take i lits ++ m ∷ []) (sym e)) ∙ turned_yes v (take i lits) l (sym c.is_false.ensures ∙ c.if-is_false.true) in
+    ap (turned v) (take_more lits i l b ∙ ap (λ (m : Literal). take i lits ++ m ∷ []) (sym e)) ∙ turned_yes v (take i lits) l (sym c.is_false.ensures ∙ c.if-is_false.true) in
     let fits : length (complements_after c.args.first (turned v (take i lits))) + length (without (l ∷ []) c.args.first) ≤ length (turned v lits) =
-        after_fits c.args.first (turned v lits) (turned v (take i lits)) (l ∷ []) (turned v (drop (i + 1) lits))
-        (turned_rest v lits (i + 1) ∙ ap (λ (x : Clause). x ++ turned v (drop (i + 1) lits)) more) c.requires.first in
+    after_fits c.args.first (turned v lits) (turned v (take i lits)) (l ∷ []) (turned v (drop (i + 1) lits))
+    (turned_rest v lits (i + 1) ∙ ap (λ (x : Clause). x ++ turned v (drop (i + 1) lits)) more) c.requires.first in
     omega (arith, fits, ap length c.loop-l.invariant.lits, filter_short (λ m. not (makes_true v m)) lits, c.lits-lits.ensures.sound.fits, c.requires.room, c.loop-l.invariant.room)
 
 pub returns-clause-distinct : goal.returns-clause-distinct
