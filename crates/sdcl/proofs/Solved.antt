@@ -10,7 +10,7 @@ use Rattle.sdcl_io.proofs.Refuted.{verified_law}
 use Rattle.sdcl_outer.specs.declared.solving.Answer.{Answer}
 use Rattle.sdcl_outer.specs.declared.solving.Answer.TheVariants as answer
 use Rattle.sdcl.specs.declared.loading.Loaded.{Loaded}
-use Rattle.sdcl.specs.declared.solving.TheConstants.{BUDGET}
+use Rattle.sdcl.specs.declared.options.TheConstants.{BUDGET}
 use Rattle.sdcl.specs.declared.verdict.Verdict.TheVariants as verdict
 use Rattle.sdcl.specs.declared.refusal.Refusal.{Refusal}
 use Rattle.sdcl.specs.Commands.{Names}

@@ -8,10 +8,17 @@ use Rattle.sdcl_io.specs.World.{Seen, Later, Unchanged, Calm}
 use Rattle.sdcl_io.specs.Step.{Step, All, apply_all, ValidSteps}
 use Rattle.sdcl_proof.specs.Files.{HoldsSteps}
 use Rattle.sdcl_outer.specs.Outcome.{Ends as Concludes, NewSteps, MayComeNext, learned_in}
+use Rattle.sdcl_base.specs.declared.mode.ReductMode.TheVariants.{Filtered}
+use Rattle.sdcl_journal.specs.Machine.{Rules}
+use Rattle.sdcl.specs.declared.options.TheConstants.{DEPTH, INNER_BUDGET}
 use Rattle.sdcl_outer.specs.declared.solving.Answer.{Answer}
 use Rattle.sdcl.specs.declared.refusal.Place.TheVariants as place
 use Rattle.sdcl.specs.declared.refusal.Refusal.{Refusal}
 use Rattle.sdcl.specs.Meaning.{Output, OutputRefuses}
+
+-- what binds the machine, of n variables and a budget
+abbrev pub rules : ℕ → ℕ → Rules
+rules n budget = record { variables = n; budget = budget; mode = Filtered; depth = DEPTH; inner_budget = INNER_BUDGET }
 
 -- the proof of this name, made where that holds
 abbrev pub proof_out : List ℕ → (Seen → Type 0) → Output
@@ -45,7 +52,7 @@ pub record FindsAnswer (n budget : ℕ) (f : List Clause) (t : Seen) (answer : A
   pub steps : List Step
   pub lawful : Lawful n budget f steps None
   pub holds : HoldsSteps Proof t steps None
-  pub bears : Concludes f n budget steps answer
+  pub bears : Concludes (rules n budget) f steps answer
 
 -- the output Proof was made, and the file of this name holds what it holds, where files are told
 pub record IsMade (name : List ℕ) (t : Seen) : Type 0 where

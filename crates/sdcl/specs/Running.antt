@@ -6,7 +6,7 @@ use Rattle.sdcl_base.specs.declared.lit.TheConstants.{MAX_VARIABLE}
 use Rattle.sdcl_dimacs.specs.declared.parser.TheConstants.{MOST_CLAUSES}
 use Rattle.sdcl.specs.declared.loading.TheConstants.{FORMULA_LIMIT}
 use Rattle.sdcl.specs.declared.judging.TheConstants.{PROOF_LIMIT}
-use Rattle.sdcl.specs.declared.solving.TheConstants.{BUDGET}
+use Rattle.sdcl.specs.declared.options.TheConstants.{BUDGET, DEPTH, INNER_BUDGET}
 use Rattle.sdcl.specs.declared.texts.TheConstants.{WORDS_ON_LINE}
 use Rattle.sdcl.specs.Commands.{Plan, Solve, Check, Drat, Convert, plan_of}
 use Rattle.sdcl.specs.Starting.{MadeNothing}
@@ -36,4 +36,4 @@ meant words = meaning_of (plan_of words)
 abbrev pub AreLimits : Type 0
 AreLimits =
     (MAX_VARIABLE ≡ 4194303) × (MOST_CLAUSES ≡ 16777215) × (FORMULA_LIMIT ≡ 134217728) × (PROOF_LIMIT ≡ 536870912)
-    × (BUDGET ≡ 10000000) × (WORDS_ON_LINE ≡ 12)
+    × (BUDGET ≡ 10000000) × (DEPTH ≡ 20) × (INNER_BUDGET ≡ 1000) × (WORDS_ON_LINE ≡ 12)

@@ -14,11 +14,11 @@ use Rattle.sdcl_outer.specs.declared.solving.Answer.TheVariants as answer
 use Rattle.sdcl.specs.Commands.{Names}
 use Rattle.sdcl.specs.Loading.{StandsFor, FormulaReadOut, IsAccepted, formula_in}
 use Rattle.sdcl.specs.Judging.{judgement}
-use Rattle.sdcl.specs.Proving.{IsMade, WritesPart, proof_out}
+use Rattle.sdcl.specs.Proving.{IsMade, WritesPart, proof_out, rules}
 use Rattle.sdcl.specs.Starting.{MadeNothing}
 use Rattle.sdcl.specs.Meaning.{Meaning}
 use Rattle.sdcl.specs.declared.judging.TheConstants.{PROOF_LIMIT}
-use Rattle.sdcl.specs.declared.solving.TheConstants.{BUDGET}
+use Rattle.sdcl.specs.declared.options.TheConstants.{BUDGET}
 use Rattle.sdcl.specs.declared.verdict.Verdict.{Verdict}
 use Rattle.sdcl.specs.declared.verdict.Verdict.TheVariants as verdict
 
@@ -48,7 +48,7 @@ pub record IsSolved (names : Names) (s t : Seen) (v : Verdict) : Type 0 where
   pub whole : proof.written.torn ≡ None
   pub answer : Answer
   pub is : v ≡ verdict_of_answer proof.variables answer
-  pub bears : Concludes proof.clauses proof.variables BUDGET proof.written.steps answer
+  pub bears : Concludes (rules proof.variables BUDGET) proof.clauses proof.written.steps answer
   pub refuted : v ≡ verdict.Unsatisfiable → AreRefutation proof.clauses proof.written.steps
   pub read_out : IsTrue s.tells → FormulaReadOut (s.file names.formula) (t.left input.Formula)
 

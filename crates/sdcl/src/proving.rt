@@ -11,7 +11,8 @@ ghost use Rattle.sdcl.specs.Proving.{Proves, FindsAnswer, WritesPart};
 use crate::loading::Loaded;
 use crate::refusal::{Place, Refusal, Trouble, blame};
 use sdcl_io::{OutRole, World};
-use sdcl_outer::{Answer, Options, SolveError, solve};
+use crate::options::{BUDGET, INNER_BUDGET, options};
+use sdcl_outer::{Answer, SolveError, solve};
 use sdcl_proof::ProofFile;
 use std::alloc::Global;
 
@@ -21,19 +22,18 @@ pub fn prove<W: World>(
     world: &mut W,
     name: &str,
     loaded: Loaded,
-    options: &Options,
 ) -> Result<Answer, Refusal>
     requires few { loaded.variables ≤ MAX_VARIABLE }
     requires within { WithinVariables loaded.variables (clauses_in loaded.store) }
-    requires room { length loaded.store.slots + options.now.budget < 4294967294 }
-    ensures proves { Proves name.now loaded.variables options.now.budget (clauses_in loaded.store)
+    requires room { length loaded.store.slots + BUDGET + INNER_BUDGET < 4294967294 }
+    ensures proves { Proves name.now loaded.variables BUDGET (clauses_in loaded.store)
         (W.seen world.old) (W.seen world.new) result }
     ensures follows { W.follows world.old world.new }
 {
     if let Err(failed) = world.create_output(OutRole::Proof, name) {
         return Err(blame(Place::Proof, Trouble::Open, failed));
     }
-    match solve_into_file(alloc, world, loaded, options) {
+    match solve_into_file(alloc, world, loaded) {
         Ok(answer) => Ok(answer),
         Err(SolveError::WriteFault) => Err(Refusal::At(Place::Proof, Trouble::Write)),
         Err(SolveError::NoMemory) => Err(Refusal::Memory),
@@ -45,23 +45,22 @@ fn solve_into_file<W: World>(
     alloc: Global,
     world: &mut W,
     loaded: Loaded,
-    options: &Options,
 ) -> Result<Answer, SolveError>
     requires there { IsTrue ((W.seen world.old).is_there Proof) }
     requires empty { HoldsSteps Proof (W.seen world.old) [] None }
     requires few { loaded.variables ≤ MAX_VARIABLE }
     requires within { WithinVariables loaded.variables (clauses_in loaded.store) }
-    requires room { length loaded.store.slots + options.now.budget < 4294967294 }
+    requires room { length loaded.store.slots + BUDGET + INNER_BUDGET < 4294967294 }
     ensures onward { ProofOnward Proof (W.seen world.old) (W.seen world.new) }
     ensures ok { IfOk result
-        (λ a. FindsAnswer loaded.variables options.now.budget (clauses_in loaded.store) (W.seen world.new) a) }
+        (λ a. FindsAnswer loaded.variables BUDGET (clauses_in loaded.store) (W.seen world.new) a) }
     ensures err { OnErr result
-        (WritesPart loaded.variables options.now.budget (clauses_in loaded.store) (W.seen world.new)) }
+        (WritesPart loaded.variables BUDGET (clauses_in loaded.store) (W.seen world.new)) }
     ensures fault { IsErrOf result SolveError.WriteFault
         → Rose ((W.seen world.old).write_faults Proof) ((W.seen world.new).write_faults Proof) }
     ensures follows { W.follows world.old world.new }
 {
     let Loaded { variables, store } = loaded;
     let mut sink = ProofFile::new(world, OutRole::Proof);
-    solve(alloc, store, variables, options, &mut sink)
+    solve(alloc, store, variables, &options(), &mut sink)
 }

@@ -9,11 +9,8 @@ use crate::proving::prove;
 use crate::refusal::Refusal;
 use crate::verdict::Verdict;
 use sdcl_io::World;
-use sdcl_outer::{Answer, Options};
+use sdcl_outer::Answer;
 use std::alloc::Global;
-
-/// The clauses that a run learns at most.
-pub const BUDGET: u64 = 10_000_000;
 
 /// Reads the formula, and solves it with its proof written on the way.
 pub fn solve<W: World>(
@@ -30,7 +27,7 @@ pub fn solve<W: World>(
 {
     let loaded = load(alloc, world, formula)?;
     let variables = loaded.variables;
-    let answer = prove(alloc, world, proof, loaded, &Options { budget: BUDGET })?;
+    let answer = prove(alloc, world, proof, loaded)?;
     Ok(verdict_of(answer, variables))
 }
 

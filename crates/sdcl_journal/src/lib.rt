@@ -3,6 +3,7 @@
 
 pub mod event;
 pub mod laws;
+mod proof_file;
 pub mod recorder;
 pub mod sink;
 pub mod writing;
