@@ -9,9 +9,9 @@ ghost use Rattle.sdcl_store.specs.Stores.{clauses_in};
 ghost use Rattle.sdcl.specs.Proving.{Proves, FindsAnswer, WritesPart};
 
 use crate::loading::Loaded;
+use crate::options::{BUDGET, INNER_BUDGET, options};
 use crate::refusal::{Place, Refusal, Trouble, blame};
 use sdcl_io::{OutRole, World};
-use crate::options::{BUDGET, INNER_BUDGET, options};
 use sdcl_outer::{Answer, SolveError, solve};
 use sdcl_proof::ProofFile;
 use std::alloc::Global;

@@ -180,4 +180,3 @@ unknown_at_witness r s levels t h a m b =
 pub back_allowed : (r : Rules) (s : RunState) (levels : List Level) (c : Clause) (k : ℕ) (p : Literal) → s.turn ≡ Back_due → Jumped (database s) s.decisions levels c k p → Allowed r s (Back k)
 unfolding Allowed
 back_allowed r s levels c k p t j = (t, j.below)
-

@@ -75,12 +75,15 @@ pub own_same : (t : Levels) (c : Clause) → c ≡ complements (decisions t) →
 own_same t c e = subst (λ (x : Clause). same_set x (complements (decisions t)) ≡ true) (sym e) (same_set_refl (complements (decisions t)))
 
 pub witness_clean : (slots : Slots) (t : Levels) (n : ℕ) (w : Clause) → IsSound t → t.variables ≡ n → no_repeats w ≡ true → list_all (names (lits_of t)) w ≡ true → IsCleanOver n w
-witness_clean slots t n w s v d over = (d, (λ l i.
-    let q : names (lits_of t) l ≡ true = all_in (names (lits_of t)) w l over i in
-    subst (λ k. (1 ≤ l.var) × (l.var ≤ k)) v (elim (or_cases (has (lits_of t) l) (has (lits_of t) (negated l)) q) [
-      | inl e ↦ s.within l (has_in (lits_of t) l e)
-      | inr e ↦ s.within (negated l) (has_in (lits_of t) (negated l) e)
-    ])))
+witness_clean slots t n w s v d over = (
+  d,
+  (λ l i.
+      let q : names (lits_of t) l ≡ true = all_in (names (lits_of t)) w l over i in
+      subst (λ k. (1 ≤ l.var) × (l.var ≤ k)) v (elim (or_cases (has (lits_of t) l) (has (lits_of t) (negated l)) q) [
+        | inl e ↦ s.within l (has_in (lits_of t) l e)
+        | inr e ↦ s.within (negated l) (has_in (lits_of t) (negated l) e)
+      ])),
+)
 
 first_some : (w c : Clause) → slice_get w 0 ≡ slice_get c 0 → (c ≡ [] → ⊥) → w ≡ [] → ⊥
 first_some w [] e n z = n refl

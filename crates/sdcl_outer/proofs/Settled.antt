@@ -105,11 +105,11 @@ from_front d c i =
           subst (In (complements c)) (sym r.2) (in_map negated c r.0 (in_filter_from (λ m. not (same d m)) c r.0 r.1).0)
     ])
     (λ l j.
-        let r : (m : Literal) × In c m × (l ≡ negated m) = in_map_from negated c l j in
-        elim (cases_Bool (same d r.0)) [
-          | inl e ↦ inl (r.2 ∙ ap negated (sym (same_true d r.0 e)))
-          | inr e ↦ inr (subst (In (complements (without c d))) (sym r.2) (in_map negated (without c d) r.0 (in_filter (λ m. not (same d m)) c r.0 r.1 (not_from_false (same d r.0) e))))
-        ])
+    let r : (m : Literal) × In c m × (l ≡ negated m) = in_map_from negated c l j in
+    elim (cases_Bool (same d r.0)) [
+      | inl e ↦ inl (r.2 ∙ ap negated (sym (same_true d r.0 e)))
+      | inr e ↦ inr (subst (In (complements (without c d))) (sym r.2) (in_map negated (without c d) r.0 (in_filter (λ m. not (same d m)) c r.0 r.1 (not_from_false (same d r.0) e))))
+    ])
 
 same_refl_set : (c : Clause) → same_set c c ≡ true
 same_refl_set c = set_from_sub c c (λ l i. i) (λ l i. i)
@@ -140,9 +140,9 @@ witness_from m slots t room v o h k n =
     let lits : same_set (complements_from (turned v ds) (turned v a)) (difference v a) ≡ true = from_same (turned v ds) (turned v a) (turned_more v ds a (sub_held slots t h)) in
     let s : Sub a (closure f ds) × Sub (closure f ds) a = set_sub a (closure f ds) h.closed in
     let whole : same_set (difference v (closure f ds)) (difference v a) ≡ true =
-        set_from_sub (difference v (closure f ds)) (difference v a) (difference_more v (closure f ds) a s.1) (difference_more v a (closure f ds) s.0) in
+    set_from_sub (difference v (closure f ds)) (difference v a) (difference_more v (closure f ds) a s.1) (difference_more v a (closure f ds) s.0) in
     let w : same_set (difference v (closure f ds)) (complements_from (turned v ds) (turned v a)) ≡ true =
-        set_trans (difference v (closure f ds)) (difference v a) (complements_from (turned v ds) (turned v a)) whole (set_sym (complements_from (turned v ds) (turned v a)) (difference v a) lits) in
+    set_trans (difference v (closure f ds)) (difference v a) (complements_from (turned v ds) (turned v a)) whole (set_sym (complements_from (turned v ds) (turned v a)) (difference v a) lits) in
     record {
       own = clause;
       over = all_from (names a) (complements_from (turned v ds) (turned v a)) (λ l i. difference_named v a l ((set_sub (complements_from (turned v ds) (turned v a)) (difference v a) lits).0 l i));

@@ -149,6 +149,7 @@ joined_add s ss f h g j i k a c x y w = record {
   where
     and_both : (a b : Bool) → a ≡ true → b ≡ true → (a && b) ≡ true
     and_both a b h k = ap (λ z. z && b) h ∙ k
+
     or_both : (a b : Bool) → a ≡ false → b ≡ false → (a || b) ≡ false
     or_both a b h k = ap (λ z. z || b) h ∙ k
 

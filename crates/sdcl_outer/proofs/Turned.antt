@@ -35,9 +35,11 @@ turn_on tells te old mid new r s t u out b k w g (Some a) h = record {
   are_told = all_on tells te old mid new g.events h.events g.are_told h.are_told;
   path = λ m z.
       let p = g.leads m k z (omega (arith, w)) in
-      let q = h.path (after_all m g.events) (led (after_all m g.events) t.slots (decisions t.trail) k p.1) in
-      (path_append r m g.events h.events p.0 q.0, ap (λ (n : RunState). n.turn) (after_append m g.events h.events) ∙ q.1,
-          ap database (after_append m g.events h.events) ∙ q.2 ∙ ap live g.slots_same);
+      let q = h.path (after_all m g.events) (led (after_all m g.events) t.slots (decisions t.trail) k p.1) in (
+        path_append r m g.events h.events p.0 q.0,
+        ap (λ (n : RunState). n.turn) (after_append m g.events h.events) ∙ q.1,
+        ap database (after_append m g.events h.events) ∙ q.2 ∙ ap live g.slots_same,
+      );
   formed = formed_append r.variables g.events h.events g.formed h.formed;
   right = right_on r (live s.slots) (live t.slots) k g.events h.events a (ap live g.slots_same) h.right;
 }

@@ -6,8 +6,9 @@ ghost use Rattle.sdcl_base.specs.Sets.{WithinVariables};
 ghost use Rattle.sdcl_store.specs.Stores.{clauses_in};
 
 use crate::{Answer, Options, SolveError, solve};
-use sdcl_base::{Lit, NoMemory};
+use sdcl_base::{Lit, NoMemory, ReductMode};
 use sdcl_io::{Discard, Failed, ProofOut};
+use sdcl_journal::{Event, JournalOut, Recorder};
 use sdcl_store::Store;
 use std::alloc::{AllocError, Global};
 use std::process::Abort;
@@ -18,26 +19,16 @@ const TWO_HOLES: [i64; 27] = [
     1, 2, 0, 3, 4, 0, 5, 6, 0, -1, -3, 0, -1, -5, 0, -3, -5, 0, -2, -4, 0, -2, -6, 0, -4, -6, 0,
 ];
 
-// A sink that keeps its steps, and fails at the call after so many.
+// A sink that keeps nothing, and fails at the call after so many.
 #[derive(Drop)]
-struct Recorder {
-    steps: Vec<i64>,
+struct Failing {
     calls: u64,
     most: u64,
     faults: u64,
 }
 
-impl Recorder {
-    fn new(alloc: Global, most: u64) -> Recorder {
-        Recorder {
-            steps: Vec::new(alloc),
-            calls: 0,
-            most,
-            faults: 0,
-        }
-    }
-
-    fn take(&mut self, clause: &[Lit]) -> Result<(), Failed>
+impl Failing {
+    fn take(&mut self) -> Result<(), Failed>
         ensures later { self.old.faults ≤ self.new.faults }
         ensures cause { IsErrOf result Failed.Fault → Rose self.old.faults self.new.faults }
     {
@@ -46,19 +37,11 @@ impl Recorder {
             self.faults = self.faults.saturating_add(1);
             return Err(Failed::Fault);
         }
-        write_step(&mut self.steps, clause).map_err(|_| Failed::NoMemory)
+        Ok(())
     }
 }
 
-fn write_step(steps: &mut Vec<i64>, clause: &[Lit]) -> Result<(), AllocError> {
-    for l in clause {
-        steps.push(l.number() as i64)?;
-    }
-    steps.push(0)?;
-    Ok(())
-}
-
-impl ProofOut for Recorder {
+impl ProofOut for Failing {
     ghost use Rattle.std.specs.Prelude.{⊤, []};
 
     ghost tells = { λ s steps torn. ⊤ };
@@ -75,13 +58,89 @@ impl ProofOut for Recorder {
 
     ghost follows_on = { λ s t u h k. tt };
 
-    fn add(&mut self, clause: &[Lit], _witness: &[Lit]) -> Result<(), Failed> {
-        self.take(clause)
+    fn add(&mut self, _clause: &[Lit], _witness: &[Lit]) -> Result<(), Failed> {
+        self.take()
     }
 
-    fn remove(&mut self, clause: &[Lit]) -> Result<(), Failed> {
-        self.take(clause)
+    fn remove(&mut self, _clause: &[Lit]) -> Result<(), Failed> {
+        self.take()
     }
+}
+
+impl JournalOut for Failing {
+    ghost use Rattle.std.specs.Prelude.{⊤};
+
+    ghost tells_events = { λ s events torn. ⊤ };
+
+    ghost by_aside = { λ s t e taken torn h. tt };
+
+    fn event(&mut self, _event: &Event) -> Result<(), Failed> {
+        self.take()
+    }
+}
+
+fn push_all(out: &mut Vec<i64>, lits: &[Lit]) -> Result<(), AllocError> {
+    for l in lits {
+        out.push(l.number() as i64)?;
+    }
+    out.push(0)?;
+    Ok(())
+}
+
+// An event as numbers: its kind, and what it holds.
+fn push_event(out: &mut Vec<i64>, event: &Event) -> Result<(), AllocError> {
+    match event {
+        Event::Decide(l) => {
+            out.push(1)?;
+            out.push(l.number() as i64)?;
+        }
+        Event::NoWitness => out.push(2)?,
+        Event::InnerSpent(variables) => {
+            out.push(3)?;
+            out.push(*variables as i64)?;
+        }
+        Event::Learn(clause) => {
+            out.push(4)?;
+            push_all(out, clause)?;
+        }
+        Event::LearnWitness(clause, witness) => {
+            out.push(5)?;
+            push_all(out, clause)?;
+            push_all(out, witness)?;
+        }
+        Event::Back(level) => {
+            out.push(6)?;
+            out.push(*level as i64)?;
+        }
+        Event::Forget(clause) => {
+            out.push(7)?;
+            push_all(out, clause)?;
+        }
+        Event::Empty => out.push(8)?,
+        Event::Model => out.push(9)?,
+        Event::Unknown => out.push(10)?,
+    }
+    Ok(())
+}
+
+// The steps: the literals of each clause and of its witness, ended by 0.
+fn steps_of(alloc: Global, recorder: &Recorder) -> Result<Vec<i64>, AllocError> {
+    let mut told = Vec::new(alloc);
+    for at in 0..recorder.step_count() {
+        for l in recorder.step_clause(at) {
+            told.push(l.number() as i64)?;
+        }
+        push_all(&mut told, recorder.step_witness(at))?;
+    }
+    Ok(told)
+}
+
+fn events_of(alloc: Global, recorder: &Recorder) -> Result<Vec<i64>, AllocError> {
+    let mut told = Vec::new(alloc);
+    for at in 0..recorder.event_count() {
+        push_event(&mut told, &recorder.event_at(at))?;
+    }
+    Ok(told)
 }
 
 // The literal of the number, if its variable is in range.
@@ -120,21 +179,34 @@ fn ending(answer: &Answer) -> u32 {
     }
 }
 
-// Solves, and answers how it ended and the steps.
+// How a run ended, with its steps and its events.
+#[derive(Drop)]
+struct Told {
+    ends: u32,
+    steps: Vec<i64>,
+    events: Vec<i64>,
+}
+
+// Solves, and answers how it ended and what it told.
 fn run(
     rt: &impl Abort,
     alloc: Global,
     numbers: &[i64],
     variables: u32,
-    budget: u64,
-) -> Result<(u32, Vec<i64>), Fail> {
+    options: &Options,
+) -> Result<Told, Fail> {
     assert!(rt; numbers.len() < 100000);
     assert!(rt; variables < 1000);
-    assert!(rt; budget < 1000000);
+    assert!(rt; options.budget < 1000000);
+    assert!(rt; options.inner_budget < 1000000);
     let store = store_of(alloc, numbers, variables)?;
-    let mut sink = Recorder::new(alloc, u64::MAX);
-    let answer = solve(alloc, store, variables, &Options { budget }, &mut sink)?;
-    Ok((ending(&answer), sink.steps))
+    let mut sink = Recorder::new(alloc);
+    let answer = solve(alloc, store, variables, options, &mut sink)?;
+    Ok(Told {
+        ends: ending(&answer),
+        steps: steps_of(alloc, &sink)?,
+        events: events_of(alloc, &sink)?,
+    })
 }
 
 // Solves over a sink that keeps nothing, and answers how it ended.
@@ -143,13 +215,14 @@ fn run_untold(
     alloc: Global,
     numbers: &[i64],
     variables: u32,
-    budget: u64,
+    options: &Options,
 ) -> Result<u32, Fail> {
     assert!(rt; numbers.len() < 100000);
     assert!(rt; variables < 1000);
-    assert!(rt; budget < 1000000);
+    assert!(rt; options.budget < 1000000);
+    assert!(rt; options.inner_budget < 1000000);
     let store = store_of(alloc, numbers, variables)?;
-    let answer = solve(alloc, store, variables, &Options { budget }, &mut Discard)?;
+    let answer = solve(alloc, store, variables, options, &mut Discard)?;
     Ok(ending(&answer))
 }
 
@@ -159,17 +232,14 @@ fn model_of(
     alloc: Global,
     numbers: &[i64],
     variables: u32,
+    options: &Options,
 ) -> Result<Vec<i64>, Fail> {
     assert!(rt; numbers.len() < 100000);
     assert!(rt; variables < 1000);
+    assert!(rt; options.budget < 1000000);
+    assert!(rt; options.inner_budget < 1000000);
     let store = store_of(alloc, numbers, variables)?;
-    let answer = solve(
-        alloc,
-        store,
-        variables,
-        &Options { budget: 1000 },
-        &mut Discard,
-    )?;
+    let answer = solve(alloc, store, variables, options, &mut Discard)?;
     let mut model = Vec::new(alloc);
     if let Answer::Model(values) = answer {
         for x in 1..variables + 1 {
@@ -183,26 +253,145 @@ fn model_of(
     Ok(model)
 }
 
+// The clauses (-1 2 3) and (-2 3).
+const HALF: [i64; 7] = [-1, 2, 3, 0, -2, 3, 0];
+
+// The clauses (1 2 3) and (-1 2 3).
+const EITHER: [i64; 8] = [1, 2, 3, 0, -1, 2, 3, 0];
+
+fn options(reduct: ReductMode, budget: u64, depth: u32, inner_budget: u64) -> Options {
+    Options {
+        budget,
+        reduct,
+        depth,
+        inner_budget,
+    }
+}
+
 #[test]
-fn steps_and_endings(rt: HostRuntime) -> Result<(), Fail> {
+fn runs_tell_their_steps_and_events(rt: HostRuntime) -> Result<(), Fail> {
     let alloc = rt.alloc();
+    let usual = options(ReductMode::Filtered, 1000, 20, 1000);
+    let once = options(ReductMode::Filtered, 1, 20, 1000);
+    let never = options(ReductMode::Filtered, 0, 20, 1000);
+    let plain = options(ReductMode::Off, 1000, 20, 1000);
+    let shallow = options(ReductMode::Filtered, 1000, 0, 1000);
+    let positive = options(ReductMode::Positive, 1000, 20, 1000);
+    let hasty = options(ReductMode::Positive, 1000, 20, 0);
     let cases = [
-        (TWO_HOLES.as_slice(), 6, 100, 20, [-1, 0, 0].as_slice()),
-        (TWO_HOLES.as_slice(), 6, 2, 20, [-1, 0, 0].as_slice()),
-        (TWO_HOLES.as_slice(), 6, 1, 20, [-1, 0, 0].as_slice()),
-        (TWO_HOLES.as_slice(), 6, 0, 0, [].as_slice()),
-        ([0].as_slice(), 1, 0, 20, [0].as_slice()),
-        ([1, 0, -1, 0].as_slice(), 1, 0, 20, [0].as_slice()),
-        ([1, 2, 0].as_slice(), 2, 0, 10, [].as_slice()),
-        ([1, -1, 0].as_slice(), 1, 0, 10, [].as_slice()),
-        ([].as_slice(), 12, 0, 10, [].as_slice()),
-        ([].as_slice(), 0, 0, 10, [].as_slice()),
+        ([].as_slice(), 0, usual, 10, [].as_slice(), [9].as_slice()),
+        ([0].as_slice(), 1, usual, 20, [0].as_slice(), [8].as_slice()),
+        (
+            [1, 0, -1, 0].as_slice(),
+            1,
+            usual,
+            20,
+            [0].as_slice(),
+            [8].as_slice(),
+        ),
+        (
+            [1, -1, 0].as_slice(),
+            1,
+            usual,
+            10,
+            [].as_slice(),
+            [1, 1, 9].as_slice(),
+        ),
+        (
+            [1, 2, 0].as_slice(),
+            2,
+            usual,
+            10,
+            [].as_slice(),
+            [1, 1, 2, 1, 2, 9].as_slice(),
+        ),
+        (
+            TWO_HOLES.as_slice(),
+            6,
+            usual,
+            20,
+            [-1, 0, 0].as_slice(),
+            [1, 1, 4, -1, 0, 6, 0, 8].as_slice(),
+        ),
+        (
+            TWO_HOLES.as_slice(),
+            6,
+            once,
+            20,
+            [-1, 0, 0].as_slice(),
+            [1, 1, 4, -1, 0, 6, 0, 8].as_slice(),
+        ),
+        (
+            TWO_HOLES.as_slice(),
+            6,
+            never,
+            0,
+            [].as_slice(),
+            [1, 1, 10].as_slice(),
+        ),
+        (
+            HALF.as_slice(),
+            3,
+            usual,
+            10,
+            [-1, -1, 0].as_slice(),
+            [1, 1, 5, -1, 0, -1, 0, 6, 0, 1, 2, 9].as_slice(),
+        ),
+        (
+            HALF.as_slice(),
+            3,
+            plain,
+            10,
+            [].as_slice(),
+            [1, 1, 1, 2, 9].as_slice(),
+        ),
+        (
+            HALF.as_slice(),
+            3,
+            shallow,
+            10,
+            [].as_slice(),
+            [1, 1, 1, 2, 9].as_slice(),
+        ),
+        (
+            HALF.as_slice(),
+            3,
+            never,
+            0,
+            [].as_slice(),
+            [1, 1, 10].as_slice(),
+        ),
+        (
+            EITHER.as_slice(),
+            3,
+            usual,
+            10,
+            [-1, -1, 0].as_slice(),
+            [1, 1, 5, -1, 0, -1, 0, 6, 0, 1, 2, 2, 1, 3, 9].as_slice(),
+        ),
+        (
+            EITHER.as_slice(),
+            3,
+            positive,
+            10,
+            [-1, -2, -1, 0].as_slice(),
+            [1, 1, 2, 1, 2, 5, -1, -2, 0, -1, 0, 6, 1, 9].as_slice(),
+        ),
+        (
+            EITHER.as_slice(),
+            3,
+            hasty,
+            10,
+            [].as_slice(),
+            [1, 1, 2, 1, 2, 3, 2, 1, 3, 9].as_slice(),
+        ),
     ];
-    for (numbers, variables, budget, ends, steps) in cases {
-        let (found, told) = run(&rt, alloc, numbers, variables, budget)?;
-        assert_eq!(rt; found, ends);
-        assert_eq!(rt; told.as_slice(), steps);
-        assert_eq!(rt; run_untold(&rt, alloc, numbers, variables, budget)?, ends);
+    for (numbers, variables, options, ends, steps, events) in cases {
+        let told = run(&rt, alloc, numbers, variables, &options)?;
+        assert_eq!(rt; told.ends, ends);
+        assert_eq!(rt; told.steps.as_slice(), steps);
+        assert_eq!(rt; told.events.as_slice(), events);
+        assert_eq!(rt; run_untold(&rt, alloc, numbers, variables, &options)?, ends);
     }
     Ok(())
 }
@@ -210,16 +399,17 @@ fn steps_and_endings(rt: HostRuntime) -> Result<(), Fail> {
 #[test]
 fn models_take_the_lowest_variable_as_true(rt: HostRuntime) -> Result<(), Fail> {
     let alloc = rt.alloc();
+    let plain = options(ReductMode::Off, 1000, 20, 1000);
     let cases = [
         ([1, 2, 0].as_slice(), 2, [1, 2].as_slice()),
         ([1, -1, 0].as_slice(), 1, [1].as_slice()),
-        ([-1, 2, 3, 0, -2, 3, 0].as_slice(), 3, [1, 2, 3].as_slice()),
+        (HALF.as_slice(), 3, [1, 2, 3].as_slice()),
         ([-1, -2, 0, 2, 3, 0].as_slice(), 3, [1, -2, 3].as_slice()),
         ([-1, 2, 0, -1, -2, 0].as_slice(), 2, [-1, 2].as_slice()),
         (TWO_HOLES.as_slice(), 6, [].as_slice()),
     ];
     for (numbers, variables, literals) in cases {
-        let found = model_of(&rt, alloc, numbers, variables)?;
+        let found = model_of(&rt, alloc, numbers, variables, &plain)?;
         assert_eq!(rt; found.as_slice(), literals);
     }
     Ok(())
@@ -254,35 +444,44 @@ fn pigeons(alloc: Global, holes: u8) -> Result<Vec<i64>, Fail>
 }
 
 #[test]
-fn pigeonholes_are_refuted_by_the_empty_clause(rt: HostRuntime) -> Result<(), Fail> {
+fn pigeonholes_are_refuted_with_reducts_and_without(rt: HostRuntime) -> Result<(), Fail> {
     let alloc = rt.alloc();
     for (holes, variables) in [(1, 2), (2, 6), (3, 12), (4, 20)] {
         let numbers = pigeons(alloc, holes)?;
-        let (found, told) = run(&rt, alloc, numbers.as_slice(), variables, 100000)?;
-        assert_eq!(rt; found, 20);
-        assert_eq!(rt; told.last(), Some(&0));
-        assert_eq!(rt;
-            told.iter().rev().take(2).filter(|n| **n == 0).count(),
-            told.len().min(2)
-        );
-        assert_eq!(rt;
-            run_untold(&rt, alloc, numbers.as_slice(), variables, 100000)?,
-            20
-        );
+        for reduct in [ReductMode::Off, ReductMode::Positive, ReductMode::Filtered] {
+            let options = options(reduct, 100000, 20, 1000);
+            let told = run(&rt, alloc, numbers.as_slice(), variables, &options)?;
+            assert_eq!(rt; told.ends, 20);
+            assert_eq!(rt; told.steps.last(), Some(&0));
+            assert_eq!(rt; told.events.last(), Some(&8));
+        }
     }
     Ok(())
 }
 
 #[test]
-fn a_failed_step_is_the_last_call(rt: HostRuntime) -> Result<(), Fail> {
+fn a_call_that_failed_is_the_last_one(rt: HostRuntime) -> Result<(), Fail> {
     let alloc = rt.alloc();
-    for (most, told) in [(0, [].as_slice()), (1, [-1, 0].as_slice())] {
+    let usual = options(ReductMode::Filtered, 9, 20, 1000);
+    // decide, the step and the event of the learned clause, back, the step and the event of the empty clause
+    for most in 0..6 {
         let store = store_of(alloc, &TWO_HOLES, 6)?;
-        let mut sink = Recorder::new(alloc, most);
-        let answer = solve(alloc, store, 6, &Options { budget: 9 }, &mut sink);
+        let mut sink = Failing {
+            calls: 0,
+            most,
+            faults: 0,
+        };
+        let answer = solve(alloc, store, 6, &usual, &mut sink);
         assert!(rt; matches!(&answer, Err(SolveError::WriteFault)));
-        assert_eq!(rt; sink.steps.as_slice(), told);
         assert_eq!(rt; sink.calls, most + 1);
     }
+    let store = store_of(alloc, &TWO_HOLES, 6)?;
+    let mut sink = Failing {
+        calls: 0,
+        most: 6,
+        faults: 0,
+    };
+    let answer = solve(alloc, store, 6, &usual, &mut sink);
+    assert!(rt; matches!(&answer, Ok(Answer::Refuted)));
     Ok(())
 }

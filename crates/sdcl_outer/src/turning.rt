@@ -144,7 +144,7 @@ fn at_witness<S: ProofOut + JournalOut>(
     ensures follows { S.follows sink.old sink.new }
 {
     let _level = search.trail.level();
-    if learned == options.budget {
+    if options.budget == learned {
         record(sink, &Event::Unknown)?;
         return Ok(Some(Answer::Spent));
     }

@@ -18,7 +18,7 @@ pub returns-in_err-record-clause-err : goal.returns-in_err-record-clause-err
 returns-in_err-record-clause-err g c =
     let s = state_of (λ x. x.slots) c.args.search.now in
     let r = rules_of s.variables c.args.options.now in
-    let spent : c.args.learned ≡ r.budget = omega (arith, c.if-learned-options.true) in
+    let spent : c.args.learned ≡ r.budget = omega (arith, c.if-options-learned.true) in
     refused c.from_residual.result (record {
       events = Unknown ∷ [];
       stopped = c.in_err-record.ensures.err;
@@ -26,11 +26,11 @@ returns-in_err-record-clause-err g c =
       formed = formed_one r.variables Unknown tt;
     })
 
-pub returns-then-learned-options-clause-turns : goal.returns-then-learned-options-clause-turns
-returns-then-learned-options-clause-turns g c =
+pub returns-then-options-learned-clause-turns : goal.returns-then-options-learned-clause-turns
+returns-then-options-learned-clause-turns g c =
     let s = state_of (λ x. x.slots) c.args.search.now in
     let r = rules_of s.variables c.args.options.now in
-    let spent : c.args.learned ≡ r.budget = omega (arith, c.if-learned-options.true) in
+    let spent : c.args.learned ≡ r.budget = omega (arith, c.if-options-learned.true) in
     record {
       events = Unknown ∷ [];
       are_told = c.in_ok-record.ensures.told;
@@ -45,7 +45,7 @@ returns-in_err-learn-clause-err g c =
     let r = rules_of s.variables c.args.options.now in
     let out = c.args.witness.now in
     let some : 0 < length s.trail.starts = tried_decided r s.slots s.trail c.requires.complete c.requires.found.due in
-    let left : c.args.learned < r.budget = omega (arith, c.requires.affordable, c.if-learned-options.false) in
+    let left : c.args.learned < r.budget = omega (arith, c.requires.affordable, c.if-options-learned.false) in
     let fits = c.requires.complete.fits in
     let sound = c.level-level.ensures.sound in
     let same = c.requires.in_order.trail_same in
@@ -74,7 +74,7 @@ returns-clause-turns g c =
     let r = rules_of s.variables c.args.options.now in
     let out = c.args.witness.now in
     let some : 0 < length s.trail.starts = tried_decided r s.slots s.trail c.requires.complete c.requires.found.due in
-    let left : c.args.learned < r.budget = omega (arith, c.requires.affordable, c.if-learned-options.false) in
+    let left : c.args.learned < r.budget = omega (arith, c.requires.affordable, c.if-options-learned.false) in
     let fits = c.requires.complete.fits in
     let sound = c.level-level.ensures.sound in
     let same = c.requires.in_order.trail_same in
