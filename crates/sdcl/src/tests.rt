@@ -148,8 +148,8 @@ const VERDICTS: [(&[u8], u8, &[u8], &[u8]); 12] = [
     (
         b"p cnf 12 0\n",
         10,
-        b"s SATISFIABLE\nv 1 2 3 4 5 6 7 8 9 10 11 12\nv 0\n",
-        b"",
+        b"s SATISFIABLE\nv -1 -2 -3 -4 -5 -6 -7 -8 -9 -10 -11 12\nv 0\n",
+        b"-1 -1 0\n-2 -2 0\n-3 -3 0\n-4 -4 0\n-5 -5 0\n-6 -6 0\n-7 -7 0\n-8 -8 0\n-9 -9 0\n-10 -10 0\n-11 -11 0\n",
     ),
     (b"p cnf 1 1\n1 -1 0\n", 10, b"s SATISFIABLE\nv 1 0\n", b""),
     (b"p cnf 1 1\n-1 0\n", 10, b"s SATISFIABLE\nv -1 0\n", b""),
@@ -171,8 +171,8 @@ const VERDICTS: [(&[u8], u8, &[u8], &[u8]); 12] = [
     (
         b"c a small file\nc\np cnf 3  2\r\n -1 2 3 0\n-2\n 3 0\n%\n0\n\n",
         10,
-        b"s SATISFIABLE\nv 1 2 3 0\n",
-        b"",
+        b"s SATISFIABLE\nv -1 2 3 0\n",
+        b"-1 -1 0\n",
     ),
 ];
 

@@ -8,7 +8,7 @@ ghost use Rattle.sdcl_store.specs.Stores.{clauses_in};
 use crate::{Answer, Options, SolveError, solve};
 use sdcl_base::{Lit, NoMemory, ReductMode};
 use sdcl_io::{Discard, Failed, ProofOut};
-use sdcl_journal::{Event, JournalOut, Recorder};
+use sdcl_journal::{Event, JournalOut};
 use sdcl_store::Store;
 use std::alloc::{AllocError, Global};
 use std::process::Abort;
@@ -19,15 +19,27 @@ const TWO_HOLES: [i64; 27] = [
     1, 2, 0, 3, 4, 0, 5, 6, 0, -1, -3, 0, -1, -5, 0, -3, -5, 0, -2, -4, 0, -2, -6, 0, -4, -6, 0,
 ];
 
-// A sink that keeps nothing, and fails at the call after so many.
+// A sink that keeps its steps and events as numbers, and fails at the call after so many.
 #[derive(Drop)]
-struct Failing {
+struct Notes {
+    steps: Vec<i64>,
+    events: Vec<i64>,
     calls: u64,
     most: u64,
     faults: u64,
 }
 
-impl Failing {
+impl Notes {
+    fn new(alloc: Global, most: u64) -> Notes {
+        Notes {
+            steps: Vec::new(alloc),
+            events: Vec::new(alloc),
+            calls: 0,
+            most,
+            faults: 0,
+        }
+    }
+
     fn take(&mut self) -> Result<(), Failed>
         ensures later { self.old.faults ≤ self.new.faults }
         ensures cause { IsErrOf result Failed.Fault → Rose self.old.faults self.new.faults }
@@ -39,9 +51,25 @@ impl Failing {
         }
         Ok(())
     }
+
+    fn take_step(&mut self, clause: &[Lit], witness: &[Lit]) -> Result<(), Failed>
+        ensures later { self.old.faults ≤ self.new.faults }
+        ensures cause { IsErrOf result Failed.Fault → Rose self.old.faults self.new.faults }
+    {
+        self.take()?;
+        push_step(&mut self.steps, clause, witness).map_err(|_| Failed::NoMemory)
+    }
+
+    fn take_event(&mut self, event: &Event) -> Result<(), Failed>
+        ensures later { self.old.faults ≤ self.new.faults }
+        ensures cause { IsErrOf result Failed.Fault → Rose self.old.faults self.new.faults }
+    {
+        self.take()?;
+        push_event(&mut self.events, event).map_err(|_| Failed::NoMemory)
+    }
 }
 
-impl ProofOut for Failing {
+impl ProofOut for Notes {
     ghost use Rattle.std.specs.Prelude.{⊤, []};
 
     ghost tells = { λ s steps torn. ⊤ };
@@ -58,25 +86,33 @@ impl ProofOut for Failing {
 
     ghost follows_on = { λ s t u h k. tt };
 
-    fn add(&mut self, _clause: &[Lit], _witness: &[Lit]) -> Result<(), Failed> {
-        self.take()
+    fn add(&mut self, clause: &[Lit], witness: &[Lit]) -> Result<(), Failed> {
+        self.take_step(clause, witness)
     }
 
-    fn remove(&mut self, _clause: &[Lit]) -> Result<(), Failed> {
-        self.take()
+    fn remove(&mut self, clause: &[Lit]) -> Result<(), Failed> {
+        self.take_step(clause, &[])
     }
 }
 
-impl JournalOut for Failing {
+impl JournalOut for Notes {
     ghost use Rattle.std.specs.Prelude.{⊤};
 
     ghost tells_events = { λ s events torn. ⊤ };
 
     ghost by_aside = { λ s t e taken torn h. tt };
 
-    fn event(&mut self, _event: &Event) -> Result<(), Failed> {
-        self.take()
+    fn event(&mut self, event: &Event) -> Result<(), Failed> {
+        self.take_event(event)
     }
+}
+
+// The literals of a clause and of its witness, ended by 0.
+fn push_step(out: &mut Vec<i64>, clause: &[Lit], witness: &[Lit]) -> Result<(), AllocError> {
+    for l in clause {
+        out.push(l.number() as i64)?;
+    }
+    push_all(out, witness)
 }
 
 fn push_all(out: &mut Vec<i64>, lits: &[Lit]) -> Result<(), AllocError> {
@@ -121,26 +157,6 @@ fn push_event(out: &mut Vec<i64>, event: &Event) -> Result<(), AllocError> {
         Event::Unknown => out.push(10)?,
     }
     Ok(())
-}
-
-// The steps: the literals of each clause and of its witness, ended by 0.
-fn steps_of(alloc: Global, recorder: &Recorder) -> Result<Vec<i64>, AllocError> {
-    let mut told = Vec::new(alloc);
-    for at in 0..recorder.step_count() {
-        for l in recorder.step_clause(at) {
-            told.push(l.number() as i64)?;
-        }
-        push_all(&mut told, recorder.step_witness(at))?;
-    }
-    Ok(told)
-}
-
-fn events_of(alloc: Global, recorder: &Recorder) -> Result<Vec<i64>, AllocError> {
-    let mut told = Vec::new(alloc);
-    for at in 0..recorder.event_count() {
-        push_event(&mut told, &recorder.event_at(at))?;
-    }
-    Ok(told)
 }
 
 // The literal of the number, if its variable is in range.
@@ -200,12 +216,14 @@ fn run(
     assert!(rt; options.budget < 1000000);
     assert!(rt; options.inner_budget < 1000000);
     let store = store_of(alloc, numbers, variables)?;
-    let mut sink = Recorder::new(alloc);
+    let mut sink = Notes::new(alloc, u64::MAX);
     let answer = solve(alloc, store, variables, options, &mut sink)?;
+    let ends = ending(&answer);
+    let Notes { steps, events, .. } = sink;
     Ok(Told {
-        ends: ending(&answer),
-        steps: steps_of(alloc, &sink)?,
-        events: events_of(alloc, &sink)?,
+        ends,
+        steps,
+        events,
     })
 }
 
@@ -459,29 +477,44 @@ fn pigeonholes_are_refuted_with_reducts_and_without(rt: HostRuntime) -> Result<(
     Ok(())
 }
 
+// Solves over a sink that fails at the call after so many. Answers how it ended, 6 for a write fault and 7 for want of
+// memory, and how many calls there were.
+fn end_failing(
+    rt: &impl Abort,
+    alloc: Global,
+    options: &Options,
+    most: u64,
+) -> Result<(u32, u64), Fail> {
+    assert!(rt; options.budget < 1000000);
+    assert!(rt; options.inner_budget < 1000000);
+    let store = store_of(alloc, &TWO_HOLES, 6)?;
+    let mut sink = Notes::new(alloc, most);
+    let answer = solve(alloc, store, 6, options, &mut sink);
+    let ends = match &answer {
+        Ok(answer) => ending(answer),
+        Err(SolveError::WriteFault) => 6,
+        Err(SolveError::NoMemory) => 7,
+    };
+    Ok((ends, sink.calls))
+}
+
 #[test]
 fn a_call_that_failed_is_the_last_one(rt: HostRuntime) -> Result<(), Fail> {
     let alloc = rt.alloc();
     let usual = options(ReductMode::Filtered, 9, 20, 1000);
-    // decide, the step and the event of the learned clause, back, the step and the event of the empty clause
-    for most in 0..6 {
-        let store = store_of(alloc, &TWO_HOLES, 6)?;
-        let mut sink = Failing {
-            calls: 0,
-            most,
-            faults: 0,
-        };
-        let answer = solve(alloc, store, 6, &usual, &mut sink);
-        assert!(rt; matches!(&answer, Err(SolveError::WriteFault)));
-        assert_eq!(rt; sink.calls, most + 1);
+    // decide; the step and the event of the learned clause; back; the step and the event of the empty clause
+    for (most, ends, calls) in [
+        (0, 6, 1),
+        (1, 6, 2),
+        (2, 6, 3),
+        (3, 6, 4),
+        (4, 6, 5),
+        (5, 6, 6),
+        (6, 20, 6),
+    ] {
+        let (found, made) = end_failing(&rt, alloc, &usual, most)?;
+        assert_eq!(rt; found, ends);
+        assert_eq!(rt; made, calls);
     }
-    let store = store_of(alloc, &TWO_HOLES, 6)?;
-    let mut sink = Failing {
-        calls: 0,
-        most: 6,
-        faults: 0,
-    };
-    let answer = solve(alloc, store, 6, &usual, &mut sink);
-    assert!(rt; matches!(&answer, Ok(Answer::Refuted)));
     Ok(())
 }

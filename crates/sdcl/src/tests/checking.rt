@@ -221,7 +221,7 @@ fn a_failing_call_has_its_status(rt: HostRuntime) -> Result<(), Fail> {
     Ok(())
 }
 
-// A formula of pigeons, and the number of lines of its proof.
+// A formula of pigeons, and how many lines a proof has in which no clause has a witness.
 const PIGEONS: [(&[u8], usize); 2] = [(FOUR_PIGEONS, 9), (FIVE_PIGEONS, 52)];
 
 #[test]
@@ -232,7 +232,7 @@ fn what_solve_writes_is_verified(rt: HostRuntime) -> Result<(), Fail> {
         assert!(rt; solved.out.as_slice() == b"s UNSATISFIABLE\n".as_slice());
         let proof = solved.proof.ok_or("no proof")?;
         let written = proof.iter().filter(|byte| **byte == b'\n').count();
-        assert_eq!(rt; written, lines);
+        assert!(rt; written < lines);
         let checked = end(
             rt.alloc(),
             &CHECK,
