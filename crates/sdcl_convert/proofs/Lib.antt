@@ -9,3 +9,4 @@ pub mod Gathering
 pub mod Apart
 pub mod Turning
 pub mod Ending
+pub mod Gone
