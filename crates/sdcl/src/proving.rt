@@ -9,10 +9,11 @@ ghost use Rattle.sdcl_store.specs.Stores.{clauses_in};
 ghost use Rattle.sdcl.specs.Proving.{Proves, FindsAnswer, WritesPart};
 
 use crate::loading::Loaded;
-use crate::options::{BUDGET, INNER_BUDGET, options};
+use crate::options::{BUDGET, DEPTH, INNER_BUDGET};
 use crate::refusal::{Place, Refusal, Trouble, blame};
+use sdcl_base::ReductMode;
 use sdcl_io::{OutRole, World};
-use sdcl_outer::{Answer, SolveError, solve};
+use sdcl_outer::{Answer, Options, SolveError, solve};
 use sdcl_proof::ProofFile;
 use std::alloc::Global;
 
@@ -62,5 +63,11 @@ fn solve_into_file<W: World>(
 {
     let Loaded { variables, store } = loaded;
     let mut sink = ProofFile::new(world, OutRole::Proof);
-    solve(alloc, store, variables, &options(), &mut sink)
+    let options = Options {
+        budget: BUDGET,
+        reduct: ReductMode::Filtered,
+        depth: DEPTH,
+        inner_budget: INNER_BUDGET,
+    };
+    solve(alloc, store, variables, &options, &mut sink)
 }
