@@ -16,7 +16,7 @@ use Rattle.sdcl_prcheck.specs.Checking.{IsReadOut, EndsEmpty, LeavesOff, AreAll}
 use Rattle.sdcl_prcheck.proofs.Judging.{refutes_formula}
 use Rattle.sdcl_convert.specs.Loading.{LoadsProof, KeepsProof, found_in, verdict_of}
 use Rattle.sdcl_convert.specs.declared.loading.Loaded.{Loaded as Kept}
-use Rattle.sdcl.specs.declared.judging.TheConstants.{PROOF_LIMIT}
+use Rattle.sdcl_proof.specs.declared.step_reader.TheConstants.{PROOF_LIMIT}
 use Rattle.sdcl.specs.Judging.{IsReadTo, Judged, steps_of, steps_ahead}
 use Rattle.sdcl.specs.Admitting.{AreProofSteps, IsAdmitted, AdmitsText, until_empty}
 use Rattle.sdcl.proofs.Reading.{judged_steps, judged_text}

@@ -10,7 +10,7 @@ use Rattle.sdcl_proof.specs.Stepping.{text_in}
 use Rattle.sdcl_prcheck.specs.Checking.{IsJudgedOf}
 use Rattle.sdcl_convert.specs.Loading.{KeepsProof, found_in, verdict_of}
 use Rattle.sdcl_convert.specs.declared.loading.Loaded.{Loaded as Kept}
-use Rattle.sdcl.specs.declared.judging.TheConstants.{PROOF_LIMIT}
+use Rattle.sdcl_proof.specs.declared.step_reader.TheConstants.{PROOF_LIMIT}
 use Rattle.sdcl.specs.declared.refusal.Refusal.{Refusal}
 use Rattle.sdcl.specs.Judging.{Judged, steps_of, proof_over}
 use Rattle.sdcl.specs.Meaning.{InputRefuses}

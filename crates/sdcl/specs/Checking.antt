@@ -16,7 +16,7 @@ use Rattle.sdcl.specs.Loading.{StandsFor, FormulaReadOut, IsAccepted, IsSoundFor
 use Rattle.sdcl.specs.Judging.{JudgedAs, IsReadTo, judgement, judgement_in}
 use Rattle.sdcl.specs.Starting.{MadeNothing}
 use Rattle.sdcl.specs.Meaning.{Input, Meaning}
-use Rattle.sdcl.specs.declared.judging.TheConstants.{PROOF_LIMIT}
+use Rattle.sdcl_proof.specs.declared.step_reader.TheConstants.{PROOF_LIMIT}
 use Rattle.sdcl.specs.declared.refusal.Place.TheVariants as place
 use Rattle.sdcl.specs.declared.verdict.Verdict.{Verdict}
 use Rattle.sdcl.specs.declared.verdict.Verdict.TheVariants as verdict

@@ -16,7 +16,7 @@ use Rattle.sdcl_prcheck.specs.declared.verdict.Verdict.{Verdict}
 use Rattle.sdcl_prcheck.specs.declared.verdict.Verdict.TheVariants as verdict
 use Rattle.sdcl_prcheck.specs.Checking.{IsJudgedOf, Bears, IsReadOut}
 use Rattle.sdcl_proof.specs.declared.fault.ProofError.TheVariants as error
-use Rattle.sdcl.specs.declared.judging.TheConstants.{PROOF_LIMIT}
+use Rattle.sdcl_proof.specs.declared.step_reader.TheConstants.{PROOF_LIMIT}
 use Rattle.sdcl.specs.declared.refusal.Place.TheVariants as place
 use Rattle.sdcl.specs.declared.refusal.Trouble.TheVariants as trouble
 use Rattle.sdcl.specs.declared.refusal.Refusal.{Refusal}

@@ -5,7 +5,7 @@ use Rattle.std.specs.declared.alloc.Global.{Global}
 use Rattle.sdcl_base.specs.declared.lit.TheConstants.{MAX_VARIABLE}
 use Rattle.sdcl_dimacs.specs.declared.parser.TheConstants.{MOST_CLAUSES}
 use Rattle.sdcl.specs.declared.loading.TheConstants.{FORMULA_LIMIT}
-use Rattle.sdcl.specs.declared.judging.TheConstants.{PROOF_LIMIT}
+use Rattle.sdcl_proof.specs.declared.step_reader.TheConstants.{PROOF_LIMIT}
 use Rattle.sdcl.specs.declared.options.TheConstants.{BUDGET, DEPTH, INNER_BUDGET}
 use Rattle.sdcl.specs.declared.texts.TheConstants.{WORDS_ON_LINE}
 use Rattle.sdcl.specs.Commands.{Plan, Solve, Check, Drat, Convert, plan_of}

@@ -17,7 +17,7 @@ use Rattle.sdcl.specs.Judging.{judgement}
 use Rattle.sdcl.specs.Proving.{IsMade, WritesPart, proof_out, rules}
 use Rattle.sdcl.specs.Starting.{MadeNothing}
 use Rattle.sdcl.specs.Meaning.{Meaning}
-use Rattle.sdcl.specs.declared.judging.TheConstants.{PROOF_LIMIT}
+use Rattle.sdcl_proof.specs.declared.step_reader.TheConstants.{PROOF_LIMIT}
 use Rattle.sdcl.specs.declared.options.TheConstants.{BUDGET}
 use Rattle.sdcl.specs.declared.verdict.Verdict.{Verdict}
 use Rattle.sdcl.specs.declared.verdict.Verdict.TheVariants as verdict

@@ -7,12 +7,12 @@ ghost use Rattle.sdcl_base.specs.declared.lit.TheConstants.{MAX_VARIABLE};
 ghost use Rattle.sdcl_store.specs.Stores.{clauses_in};
 ghost use Rattle.sdcl.specs.Admitting.{Admits, AdmitsText};
 
-use crate::judging::{PROOF_LIMIT, refuse, steps_of};
+use crate::judging::{refuse, steps_of};
 use crate::loading::Loaded;
 use crate::refusal::{Place, Refusal, Trouble, blame};
 use sdcl_convert::{Loaded as Kept, load};
 use sdcl_io::{InRole, Reader, World};
-use sdcl_proof::{Dialect, ProofError};
+use sdcl_proof::{Dialect, PROOF_LIMIT, ProofError};
 use std::alloc::Global;
 
 /// Opens the named file, and judges it as a PR proof of the formula. Where it is verified, and there are variables
@@ -49,7 +49,8 @@ fn admit_open<W: World>(alloc: Global, world: &mut W, loaded: Loaded) -> Result<
     ensures admits { AdmitsText loaded.variables (clauses_in loaded.store)
         ((W.seen world.old).left input.Proof) ((W.seen world.new).left input.Proof) result }
     ensures fault { IsErrOf result ProofError.ReadFault
-        → Rose ((W.seen world.old).read_faults input.Proof) ((W.seen world.new).read_faults input.Proof) }
+        → Rose ((W.seen world.old).read_faults input.Proof)
+        ((W.seen world.new).read_faults input.Proof) }
     ensures follows { W.follows world.old world.new }
 {
     let Loaded { variables, store } = loaded;

@@ -66,7 +66,8 @@ fn on_three<'w>(
     proof: &'w str,
     output: &'w str,
 ) -> Option<Command<'w>>
-    ensures plan { MatchOption result (plan_on_three command.now formula.now proof.now output.now ≡ None)
+    ensures plan { MatchOption result
+        (plan_on_three command.now formula.now proof.now output.now ≡ None)
         (λ c. plan_on_three command.now formula.now proof.now output.now ≡ Some (plan_in c)) }
     ensures apart { IfSome result (λ c. AreApart (plan_in c)) }
 {

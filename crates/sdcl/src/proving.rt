@@ -4,7 +4,7 @@ ghost use Rattle.sdcl_io.specs.declared.world.OutRole.TheVariants.{Proof};
 ghost use Rattle.sdcl_io.specs.World.{Rose};
 ghost use Rattle.sdcl_proof.specs.Files.{ProofOnward, HoldsSteps};
 ghost use Rattle.sdcl_base.specs.Sets.{WithinVariables};
-ghost use Rattle.sdcl_base.specs.declared.lit.TheConstants.{MAX_VARIABLE};
+ghost use Rattle.sdcl_base.specs.declared.lit.TheConstants.{ID_LIMIT, MAX_VARIABLE};
 ghost use Rattle.sdcl_store.specs.Stores.{clauses_in};
 ghost use Rattle.sdcl.specs.Proving.{Proves, FindsAnswer, WritesPart};
 
@@ -26,7 +26,7 @@ pub fn prove<W: World>(
 ) -> Result<Answer, Refusal>
     requires few { loaded.variables ≤ MAX_VARIABLE }
     requires within { WithinVariables loaded.variables (clauses_in loaded.store) }
-    requires room { length loaded.store.slots + BUDGET + INNER_BUDGET < 4294967294 }
+    requires room { length loaded.store.slots + BUDGET + INNER_BUDGET < ID_LIMIT }
     ensures proves { Proves name.now loaded.variables BUDGET (clauses_in loaded.store)
         (W.seen world.old) (W.seen world.new) result }
     ensures follows { W.follows world.old world.new }
@@ -51,7 +51,7 @@ fn solve_into_file<W: World>(
     requires empty { HoldsSteps Proof (W.seen world.old) [] None }
     requires few { loaded.variables ≤ MAX_VARIABLE }
     requires within { WithinVariables loaded.variables (clauses_in loaded.store) }
-    requires room { length loaded.store.slots + BUDGET + INNER_BUDGET < 4294967294 }
+    requires room { length loaded.store.slots + BUDGET + INNER_BUDGET < ID_LIMIT }
     ensures onward { ProofOnward Proof (W.seen world.old) (W.seen world.new) }
     ensures ok { IfOk result
         (λ a. FindsAnswer loaded.variables BUDGET (clauses_in loaded.store) (W.seen world.new) a) }

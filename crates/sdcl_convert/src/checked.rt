@@ -30,7 +30,8 @@ impl Model for Checked {
 
     ghost view = { λ c. proven_of c.variables c.formula c.steps.items };
 
-    ghost invariant = { λ c. IsProvenUpTo c.greatest (proven_of c.variables c.formula c.steps.items) };
+    ghost invariant = { λ c. IsProvenUpTo c.greatest
+        (proven_of c.variables c.formula c.steps.items) };
 }
 
 // The greatest of `least` and all variables of the steps.

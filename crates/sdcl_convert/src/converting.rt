@@ -42,7 +42,8 @@ pub fn convert<P: ProofOut>(
     ensures later { P.faults out.old ≤ P.faults out.new }
     ensures aside { P.aside out.new ≡ P.aside out.old }
     ensures ready { OnOk result (P.ready out.new) }
-    ensures fault { IsErrOf result ConvertError.WriteFault → Rose (P.faults out.old) (P.faults out.new) }
+    ensures fault { IsErrOf result ConvertError.WriteFault
+        → Rose (P.faults out.old) (P.faults out.new) }
     ensures ok { IfOk result (λ c. Converts P.tells out.old out.new checked c) }
     ensures err { OnErr result (AreFirstOf P.tells out.old out.new (lines_for checked)) }
 {
@@ -69,9 +70,12 @@ fn convert_steps<P: ProofOut>(
     ensures later { P.faults out.old ≤ P.faults out.new }
     ensures aside { P.aside out.new ≡ P.aside out.old }
     ensures ready { OnOk result (P.ready out.new) }
-    ensures fault { IsErrOf result ConvertError.WriteFault → Rose (P.faults out.old) (P.faults out.new) }
-    ensures ok { IfOk result (λ c. WritesLines P.tells out.old out.new (clauses_in formula.now) (map step_of steps.now) (greatest + 1) c) }
-    ensures err { OnErr result (AreFirstOf P.tells out.old out.new (converted_apart All (clauses_in formula.now) (map step_of steps.now) (greatest + 1))) }
+    ensures fault { IsErrOf result ConvertError.WriteFault
+        → Rose (P.faults out.old) (P.faults out.new) }
+    ensures ok { IfOk result (λ c. WritesLines P.tells out.old out.new (clauses_in formula.now)
+        (map step_of steps.now) (greatest + 1) c) }
+    ensures err { OnErr result (AreFirstOf P.tells out.old out.new
+        (converted_apart All (clauses_in formula.now) (map step_of steps.now) (greatest + 1))) }
 {
     let mut clauses = clauses_of(alloc, formula)?;
     let mut last = greatest;
@@ -117,7 +121,8 @@ fn push_live(
     clauses: &mut Vec<Clause>,
 ) -> Result<(), NoMemory>
     requires there { id.0 < length formula.now.slots }
-    ensures { OnOk result (clauses.new.items ≡ clauses.old.items ++ live (slot_at formula.now.slots id.0 ∷ [])) }
+    ensures { OnOk result (clauses.new.items ≡ clauses.old.items ++ live
+        (slot_at formula.now.slots id.0 ∷ [])) }
 {
     if formula.alive(id) {
         let clause = Clause::collect(alloc, formula.literals(id))?;

@@ -39,7 +39,8 @@ pub(crate) fn lines_of(
     requires room { has_witness (step_of step.now) ≡ true → x ≤ MAX_VARIABLE }
     requires clauses { AllBelow x clauses.now }
     requires step { StepBelow x (step_of step.now) }
-    ensures { IfOk result (λ lines. lines_in lines.items ≡ lines_of All clauses.now x (step_of step.now)) }
+    ensures { IfOk result (λ lines. lines_in lines.items ≡ lines_of All clauses.now x
+        (step_of step.now)) }
 {
     match step {
         Step::Remove { clause } => {
@@ -83,7 +84,8 @@ fn block(
     requires clauses { AllBelow x.var clauses.now }
     requires clause { Below x.var clause.now }
     requires witness { Below x.var witness.now }
-    ensures { IfOk result (λ lines. lines_in lines.items ≡ block clauses.now clause.now witness.now x.var) }
+    ensures { IfOk result (λ lines. lines_in lines.items ≡
+        block clauses.now clause.now witness.now x.var) }
 {
     let mut lines = Vec::new(alloc);
     push_reduced(alloc, clauses, witness, x, &mut lines)?;
@@ -107,7 +109,8 @@ fn push_reduced(
 ) -> Result<(), NoMemory>
     requires positive { x ≡ pos_lit x.var }
     requires clauses { AllBelow x.var clauses.now }
-    ensures { OnOk result (lines_in lines.new.items ≡ lines_in lines.old.items ++ map Add (reduced_lines clauses.now witness.now x.var)) }
+    ensures { OnOk result (lines_in lines.new.items ≡ lines_in lines.old.items ++ map Add
+        (reduced_lines clauses.now witness.now x.var)) }
 {
     for clause in clauses {
         push_if_reduced(alloc, clause.lits(), witness, x, lines)?;
@@ -125,7 +128,8 @@ fn push_if_reduced(
     requires positive { x ≡ pos_lit x.var }
     requires distinct { no_repeats clause.now ≡ true }
     requires clause { Below x.var clause.now }
-    ensures { OnOk result (lines_in lines.new.items ≡ lines_in lines.old.items ++ map Add (reduced_lines (clause.now ∷ []) witness.now x.var)) }
+    ensures { OnOk result (lines_in lines.new.items ≡ lines_in lines.old.items ++ map Add
+        (reduced_lines (clause.now ∷ []) witness.now x.var)) }
 {
     if is_reduced(witness, clause) {
         push_short(alloc, clause, witness, x, lines)
@@ -144,7 +148,8 @@ fn push_short(
     requires positive { x ≡ pos_lit x.var }
     requires distinct { no_repeats clause.now ≡ true }
     requires clause { Below x.var clause.now }
-    ensures { OnOk result (lines_in lines.new.items ≡ lines_in lines.old.items ++ Add (neg_lit x.var ∷ without_complements clause.now witness.now) ∷ []) }
+    ensures { OnOk result (lines_in lines.new.items ≡ lines_in lines.old.items ++ Add
+        (neg_lit x.var ∷ without_complements clause.now witness.now) ∷ []) }
 {
     let mut lits = Vec::new(alloc);
     lits.push(x.negated()).map_err(|_| NoMemory)?;
@@ -161,7 +166,8 @@ fn push_own(alloc: Global, clause: &[Lit], x: Lit, lines: &mut Vec<Line>) -> Res
     requires positive { x ≡ pos_lit x.var }
     requires distinct { no_repeats clause.now ≡ true }
     requires clause { Below x.var clause.now }
-    ensures { OnOk result (lines_in lines.new.items ≡ lines_in lines.old.items ++ Add (pos_lit x.var ∷ clause.now) ∷ []) }
+    ensures { OnOk result (lines_in lines.new.items ≡ lines_in lines.old.items ++ Add
+        (pos_lit x.var ∷ clause.now) ∷ []) }
 {
     let mut lits = Vec::new(alloc);
     lits.push(x).map_err(|_| NoMemory)?;
@@ -179,7 +185,8 @@ fn push_weakening(
 ) -> Result<(), NoMemory>
     requires positive { x ≡ pos_lit x.var }
     requires clauses { AllBelow x.var clauses.now }
-    ensures { OnOk result (lines_in lines.new.items ≡ lines_in lines.old.items ++ weakening clauses.now witness.now x.var) }
+    ensures { OnOk result (lines_in lines.new.items ≡ lines_in lines.old.items
+        ++ weakening clauses.now witness.now x.var) }
 {
     for clause in clauses {
         push_if_shaken(alloc, clause.lits(), witness, x, lines)?;
@@ -197,7 +204,8 @@ fn push_if_shaken(
     requires positive { x ≡ pos_lit x.var }
     requires distinct { no_repeats clause.now ≡ true }
     requires clause { Below x.var clause.now }
-    ensures { OnOk result (lines_in lines.new.items ≡ lines_in lines.old.items ++ weakening (clause.now ∷ []) witness.now x.var) }
+    ensures { OnOk result (lines_in lines.new.items ≡ lines_in lines.old.items ++ weakening
+        (clause.now ∷ []) witness.now x.var) }
 {
     if is_shaken(witness, clause) {
         push_weak(alloc, clause, x, lines)?;
@@ -211,7 +219,8 @@ fn push_weak(alloc: Global, clause: &[Lit], x: Lit, lines: &mut Vec<Line>) -> Re
     requires positive { x ≡ pos_lit x.var }
     requires distinct { no_repeats clause.now ≡ true }
     requires clause { Below x.var clause.now }
-    ensures { OnOk result (lines_in lines.new.items ≡ lines_in lines.old.items ++ Add (clause.now ++ pos_lit x.var ∷ []) ∷ []) }
+    ensures { OnOk result (lines_in lines.new.items ≡ lines_in lines.old.items ++ Add
+        (clause.now ++ pos_lit x.var ∷ []) ∷ []) }
 {
     let mut lits = Vec::new(alloc);
     lits.extend_from_slice(clause).map_err(|_| NoMemory)?;
@@ -228,7 +237,8 @@ fn push_implied(
 ) -> Result<(), NoMemory>
     requires positive { x ≡ pos_lit x.var }
     requires witness { Below x.var witness.now }
-    ensures { OnOk result (lines_in lines.new.items ≡ lines_in lines.old.items ++ map Add (implied witness.now x.var)) }
+    ensures { OnOk result (lines_in lines.new.items ≡ lines_in lines.old.items ++ map Add
+        (implied witness.now x.var)) }
 {
     for l in witness {
         push_add(alloc, &[*l, x.negated()], lines)?;
@@ -243,7 +253,8 @@ fn push_shaken(
     witness: &[Lit],
     lines: &mut Vec<Line>,
 ) -> Result<(), NoMemory>
-    ensures { OnOk result (lines_in lines.new.items ≡ lines_in lines.old.items ++ map Add (filter (shaken witness.now) clauses.now)) }
+    ensures { OnOk result (lines_in lines.new.items ≡ lines_in lines.old.items ++ map Add
+        (filter (shaken witness.now) clauses.now)) }
 {
     for clause in clauses {
         push_again(alloc, clause.lits(), witness, lines)?;
@@ -258,7 +269,8 @@ fn push_again(
     lines: &mut Vec<Line>,
 ) -> Result<(), NoMemory>
     requires distinct { no_repeats clause.now ≡ true }
-    ensures { OnOk result (lines_in lines.new.items ≡ lines_in lines.old.items ++ map Add (filter (shaken witness.now) (clause.now ∷ []))) }
+    ensures { OnOk result (lines_in lines.new.items ≡ lines_in lines.old.items ++ map Add
+        (filter (shaken witness.now) (clause.now ∷ []))) }
 {
     if is_shaken(witness, clause) {
         push_add(alloc, clause, lines)
@@ -279,7 +291,8 @@ fn take_back(alloc: Global, lines: &[Line]) -> Result<Vec<Line>, NoMemory>
 }
 
 fn push_back(alloc: Global, line: &Line, lines: &mut Vec<Line>) -> Result<(), NoMemory>
-    ensures { OnOk result (lines_in lines.new.items ≡ lines_in lines.old.items ++ taken_back (line_step line.now ∷ [])) }
+    ensures { OnOk result (lines_in lines.new.items ≡ lines_in lines.old.items ++ taken_back
+        (line_step line.now ∷ [])) }
 {
     match line {
         Line::Add(clause) => push_remove(alloc, clause.lits(), lines),
@@ -290,7 +303,8 @@ fn push_back(alloc: Global, line: &Line, lines: &mut Vec<Line>) -> Result<(), No
 // Appends the addition of the literals.
 fn push_add(alloc: Global, lits: &[Lit], lines: &mut Vec<Line>) -> Result<(), NoMemory>
     requires { no_repeats lits.now ≡ true }
-    ensures { OnOk result (lines_in lines.new.items ≡ lines_in lines.old.items ++ Add lits.now ∷ []) }
+    ensures { OnOk result (lines_in lines.new.items ≡ lines_in lines.old.items
+        ++ Add lits.now ∷ []) }
 {
     let clause = Clause::collect(alloc, lits)?;
     lines.push(Line::Add(clause)).map_err(|_| NoMemory)?;
@@ -300,7 +314,8 @@ fn push_add(alloc: Global, lits: &[Lit], lines: &mut Vec<Line>) -> Result<(), No
 // Appends the deletion of the literals.
 fn push_remove(alloc: Global, lits: &[Lit], lines: &mut Vec<Line>) -> Result<(), NoMemory>
     requires { no_repeats lits.now ≡ true }
-    ensures { OnOk result (lines_in lines.new.items ≡ lines_in lines.old.items ++ Delete lits.now ∷ []) }
+    ensures { OnOk result (lines_in lines.new.items ≡ lines_in lines.old.items
+        ++ Delete lits.now ∷ []) }
 {
     let clause = Clause::collect(alloc, lits)?;
     lines.push(Line::Remove(clause)).map_err(|_| NoMemory)?;

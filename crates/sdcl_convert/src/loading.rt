@@ -3,6 +3,7 @@ ghost use Rattle.std.specs.Prelude.{◌≡◌, ◌≤◌, [], IsTrue, IfOk, map}
 ghost use Rattle.sdcl_base.specs.Sets.{WithinVariables};
 ghost use Rattle.sdcl_base.specs.declared.lit.TheConstants.{MAX_VARIABLE};
 ghost use Rattle.sdcl_proof.specs.declared.step.Dialect.TheVariants.{Pr};
+ghost use Rattle.sdcl_proof.specs.declared.step_reader.TheConstants.{PROOF_LIMIT};
 ghost use Rattle.sdcl_proof.specs.Steps.{step_of};
 ghost use Rattle.sdcl_proof.specs.Stepping.{stepping, IsUnfailed};
 ghost use Rattle.sdcl_store.specs.Stores.{clauses_in};
@@ -37,15 +38,19 @@ pub fn load<W: World>(
     formula: Store,
     variables: u32,
 ) -> Result<Loaded, ProofError>
-    requires open { IsTrue ((stepping reader.old).words.reading.world.is_open (stepping reader.old).words.reading.role) }
+    requires open { IsTrue ((stepping reader.old).words.reading.world.is_open
+        (stepping reader.old).words.reading.role) }
     requires dialect { (stepping reader.old).dialect ≡ Pr }
     requires sound { IsUnfailed (stepping reader.old) }
-    requires limit { (stepping reader.old).words.reading.limit ≤ 536870912 }
+    requires limit { (stepping reader.old).words.reading.limit ≤ PROOF_LIMIT }
     requires few { variables ≤ MAX_VARIABLE }
     requires within { WithinVariables variables (clauses_in formula) }
-    ensures same_reference { reader.new.words.reader.world.ghost_name ≡ reader.old.words.reader.world.ghost_name }
-    ensures loads { LoadsProof variables (clauses_in formula) (stepping reader.old) (stepping reader.new) result }
-    ensures follows { W.follows reader.old.words.reader.world.now reader.new.words.reader.world.now }
+    ensures same_reference { reader.new.words.reader.world.ghost_name ≡
+        reader.old.words.reader.world.ghost_name }
+    ensures loads { LoadsProof variables (clauses_in formula) (stepping reader.old)
+        (stepping reader.new) result }
+    ensures follows { W.follows reader.old.words.reader.world.now
+        reader.new.words.reader.world.now }
 {
     let mut database = database_of(alloc, &formula, variables)?;
     let mut steps = Vec::new(alloc);
@@ -62,13 +67,17 @@ fn collect<W: World>(
     database: &mut Database,
     kept: &mut Vec<Step>,
 ) -> Result<Verdict, ProofError>
-    requires open { IsTrue ((stepping reader.old).words.reading.world.is_open (stepping reader.old).words.reading.role) }
+    requires open { IsTrue ((stepping reader.old).words.reading.world.is_open
+        (stepping reader.old).words.reading.role) }
     requires sound { IsUnfailed (stepping reader.old) }
-    requires limit { (stepping reader.old).words.reading.limit ≤ 536870912 }
+    requires limit { (stepping reader.old).words.reading.limit ≤ PROOF_LIMIT }
     requires empty { kept.old.items ≡ [] }
-    ensures same_reference { reader.new.words.reader.world.ghost_name ≡ reader.old.words.reader.world.ghost_name }
-    ensures collects { Collects database.old.clauses kept.new.items (stepping reader.old) (stepping reader.new) result }
-    ensures follows { W.follows reader.old.words.reader.world.now reader.new.words.reader.world.now }
+    ensures same_reference { reader.new.words.reader.world.ghost_name ≡
+        reader.old.words.reader.world.ghost_name }
+    ensures collects { Collects database.old.clauses kept.new.items (stepping reader.old)
+        (stepping reader.new) result }
+    ensures follows { W.follows reader.old.words.reader.world.now
+        reader.new.words.reader.world.now }
 {
     let mut taken = 0u64;
     'steps: while let Some(step) = reader.next(alloc)? {

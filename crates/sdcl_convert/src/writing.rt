@@ -71,8 +71,10 @@ pub(crate) fn write_step<P: ProofOut>(
     ensures later { P.faults out.old ≤ P.faults out.new }
     ensures aside { P.aside out.new ≡ P.aside out.old }
     ensures ready { OnOk result (P.ready out.new) }
-    ensures fault { IsErrOf result ConvertError.WriteFault → Rose (P.faults out.old) (P.faults out.new) }
-    ensures applied { OnOk result (clauses.new.items ≡ apply_all All clauses.old.items (lines_in lines.now)) }
+    ensures fault { IsErrOf result ConvertError.WriteFault
+        → Rose (P.faults out.old) (P.faults out.new) }
+    ensures applied { OnOk result (clauses.new.items ≡ apply_all All clauses.old.items
+        (lines_in lines.now)) }
     ensures told { OnOk result (IsTold P.tells out.old out.new (lines_in lines.now) None) }
     ensures torn { OnErr result (AreFirstOf P.tells out.old out.new (lines_in lines.now)) }
 {
@@ -88,7 +90,8 @@ fn write_lines<P: ProofOut>(lines: &[Line], out: &mut P) -> Result<(), ConvertEr
     ensures later { P.faults out.old ≤ P.faults out.new }
     ensures aside { P.aside out.new ≡ P.aside out.old }
     ensures ready { OnOk result (P.ready out.new) }
-    ensures fault { IsErrOf result ConvertError.WriteFault → Rose (P.faults out.old) (P.faults out.new) }
+    ensures fault { IsErrOf result ConvertError.WriteFault
+        → Rose (P.faults out.old) (P.faults out.new) }
     ensures told { OnOk result (IsTold P.tells out.old out.new (lines_in lines.now) None) }
     ensures torn { OnErr result (AreFirstOf P.tells out.old out.new (lines_in lines.now)) }
 {
@@ -104,7 +107,8 @@ fn write_line<P: ProofOut>(line: &Line, out: &mut P) -> Result<(), ConvertError>
     ensures later { P.faults out.old ≤ P.faults out.new }
     ensures aside { P.aside out.new ≡ P.aside out.old }
     ensures ready { OnOk result (P.ready out.new) }
-    ensures fault { IsErrOf result ConvertError.WriteFault → Rose (P.faults out.old) (P.faults out.new) }
+    ensures fault { IsErrOf result ConvertError.WriteFault
+        → Rose (P.faults out.old) (P.faults out.new) }
     ensures told { OnOk result (IsTold P.tells out.old out.new (line_step line.now ∷ []) None) }
     ensures torn { OnErr result (MayBeTold P.tells out.old out.new (line_step line.now)) }
 {
@@ -160,7 +164,8 @@ fn put(
     first: &mut Vec<Clause>,
     last: &mut Vec<Clause>,
 ) -> Result<(), NoMemory>
-    ensures first { OnOk result (first.new.items ≡ first.old.items ++ unshaken (clause ∷ []) witness.now) }
+    ensures first { OnOk result (first.new.items ≡ first.old.items ++ unshaken
+        (clause ∷ []) witness.now) }
     ensures last { OnOk result (last.new.items
         ≡ last.old.items ++ filter (shaken witness.now) (clause ∷ [])) }
 {
@@ -196,7 +201,8 @@ fn remove(lits: &[Lit], clauses: &mut Vec<Clause>)
 fn place_of(clauses: &[Clause], lits: &[Lit]) -> usize
     ensures bound { result ≤ length clauses.now }
     ensures before { list_any (λ c. same_set c lits.now) (take result clauses.now) ≡ false }
-    ensures here { result < length clauses.now → same_set (clause_at clauses.now result) lits.now ≡ true }
+    ensures here { result < length clauses.now
+        → same_set (clause_at clauses.now result) lits.now ≡ true }
 {
     for at in 0..clauses.len() {
         if is_same_set(clauses[at].lits(), lits) {

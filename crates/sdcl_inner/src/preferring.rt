@@ -15,7 +15,8 @@ use sdcl_trail::Trail;
 pub fn descend<C: Growing + Drop>(search: &mut Search<C>, prefer: &[Lit]) -> bool
     requires in_order { IsInOrder (state_of C.clauses search.old) }
     requires within { (l : Literal) → In prefer.now l → l.var ≤ search.old.variables }
-    ensures descends { Descends (state_of C.clauses search.old) (state_of C.clauses search.new) prefer.now result }
+    ensures descends { Descends (state_of C.clauses search.old)
+        (state_of C.clauses search.new) prefer.now result }
     ensures same { search.new.clauses ≡ search.old.clauses }
 {
     // a place before which all were assigned when it was reached
@@ -36,7 +37,9 @@ pub fn descend<C: Growing + Drop>(search: &mut Search<C>, prefer: &[Lit]) -> boo
 
 // The place of a literal that has no value: the first from this one on, or else the first.
 fn next_preferred(trail: &Trail, prefer: &[Lit], from: usize) -> Option<usize>
-    ensures { MatchOption result ((k : ℕ) → k < length prefer.now → names trail.now.lits (literal_in prefer.now k) ≡ true) (λ k. (k < length prefer.now) × (names trail.now.lits (literal_in prefer.now k) ≡ false)) }
+    ensures { MatchOption result ((k : ℕ) → k < length prefer.now
+        → names trail.now.lits (literal_in prefer.now k) ≡ true)
+        (λ k. (k < length prefer.now) × (names trail.now.lits (literal_in prefer.now k) ≡ false)) }
 {
     match free_from(trail, prefer, from) {
         Some(place) => Some(place),
@@ -46,7 +49,9 @@ fn next_preferred(trail: &Trail, prefer: &[Lit], from: usize) -> Option<usize>
 
 // The first place from this one on whose literal has no value.
 fn free_from(trail: &Trail, prefer: &[Lit], from: usize) -> Option<usize>
-    ensures { MatchOption result ((k : ℕ) → from ≤ k → k < length prefer.now → names trail.now.lits (literal_in prefer.now k) ≡ true) (λ k. (k < length prefer.now) × (names trail.now.lits (literal_in prefer.now k) ≡ false)) }
+    ensures { MatchOption result ((k : ℕ) → from ≤ k → k < length prefer.now
+        → names trail.now.lits (literal_in prefer.now k) ≡ true)
+        (λ k. (k < length prefer.now) × (names trail.now.lits (literal_in prefer.now k) ≡ false)) }
 {
     // those from `from` on and below `place` have values
     for place in from..prefer.len() {

@@ -31,7 +31,8 @@ impl<C: Growing + Drop> Search<C> {
     pub fn new(alloc: Global, clauses: C, variables: u32) -> Result<Search<C>, NoMemory>
         requires few { variables ≤ MAX_VARIABLE }
         requires within { AreUpTo variables (live (C.clauses clauses)) }
-        ensures begins { IfOk result (λ s. Begins (C.clauses clauses) variables (state_of C.clauses s)) }
+        ensures begins { IfOk result (λ s. Begins (C.clauses clauses) variables
+            (state_of C.clauses s)) }
         ensures same { IfOk result (λ s. s.clauses ≡ clauses) }
     {
         let trail = Trail::new(alloc, variables)?;
@@ -47,7 +48,8 @@ impl<C: Growing + Drop> Search<C> {
     /// Puts on the trail all that follows, and answers whether a clause is false.
     pub fn propagate(&mut self) -> bool
         requires { IsInOrder (state_of C.clauses self.old) }
-        ensures propagates { Propagates (state_of C.clauses self.old) (state_of C.clauses self.new) result }
+        ensures propagates { Propagates (state_of C.clauses self.old)
+            (state_of C.clauses self.new) result }
         ensures same { self.new.clauses ≡ self.old.clauses }
     {
         let conflict = self.engine.propagate(&mut self.trail, &self.clauses);
@@ -61,7 +63,8 @@ impl<C: Growing + Drop> Search<C> {
         requires complete { CompleteOver (C.clauses self.old.clauses) self.old.trail }
         requires range { decision.var ≤ self.old.variables }
         requires free { names self.old.trail.lits decision ≡ false }
-        ensures decides { Decides (state_of C.clauses self.old) (state_of C.clauses self.new) decision }
+        ensures decides { Decides (state_of C.clauses self.old)
+            (state_of C.clauses self.new) decision }
         ensures same { self.new.clauses ≡ self.old.clauses }
     {
         let _level = self.trail.level();
@@ -77,7 +80,8 @@ impl<C: Growing + Drop> Search<C> {
         requires room { length (C.clauses self.old.clauses) < 4294967295 }
         requires distinct { no_repeats clause.now ≡ true }
         requires own { same_set clause.now (complements (decisions self.old.trail)) ≡ true }
-        ensures joins { OnOk result (Joins (state_of C.clauses self.old) (state_of C.clauses self.new) clause.now) }
+        ensures joins { OnOk result (Joins (state_of C.clauses self.old)
+            (state_of C.clauses self.new) clause.now) }
         ensures keeps { C.keeps self.old.clauses self.new.clauses }
     {
         let level = self.trail.level();

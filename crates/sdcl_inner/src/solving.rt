@@ -39,7 +39,8 @@ pub fn solve_view<V: Clauses>(
     requires few { variables ≤ MAX_VARIABLE }
     requires apart { no_variable_twice prefer.now ≡ true }
     requires within { (l : Literal) → In prefer.now l → l.var ≤ variables }
-    requires over { (d : Clause) (l : Literal) → In (live (V.clauses view.now)) d → In d l → names prefer.now l ≡ true }
+    requires over { (d : Clause) (l : Literal) → In (live (V.clauses view.now)) d → In d l
+        → names prefer.now l ≡ true }
     requires room { length (V.clauses view.now) + budget < 4294967295 }
     ensures { IfOk result (λ a. Solves (live (V.clauses view.now)) variables prefer.now budget a) }
 {

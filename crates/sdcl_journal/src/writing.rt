@@ -17,7 +17,8 @@ const CLOSING: &[u8] = b"0\n";
 /// Writes the line of the event, or a proper prefix of it with a cause.
 pub fn write_event<W: World>(world: &mut W, role: OutRole, event: &Event) -> Result<(), Failed>
     requires { IsTrue ((W.seen world.old).is_there role) }
-    ensures writes { WritesAll role (W.seen world.old) (W.seen world.new) result (event_line (event_of event.now)) }
+    ensures writes { WritesAll role (W.seen world.old) (W.seen world.new) result
+        (event_line (event_of event.now)) }
     ensures follows { W.follows world.old world.new }
 {
     match event {
@@ -39,7 +40,8 @@ pub fn write_event<W: World>(world: &mut W, role: OutRole, event: &Event) -> Res
 // Writes the line of a decision.
 fn write_decision<W: World>(world: &mut W, role: OutRole, l: Lit) -> Result<(), Failed>
     requires { IsTrue ((W.seen world.old).is_there role) }
-    ensures writes { WritesAll role (W.seen world.old) (W.seen world.new) result (codes "decide " ++ (literal_text l ++ codes "\n")) }
+    ensures writes { WritesAll role (W.seen world.old) (W.seen world.new) result
+        (codes "decide " ++ (literal_text l ++ codes "\n")) }
     ensures follows { W.follows world.old world.new }
 {
     let mut buffer = Buffer::new();
@@ -56,7 +58,8 @@ fn write_numbered<W: World>(
     number: u32,
 ) -> Result<(), Failed>
     requires { IsTrue ((W.seen world.old).is_there role) }
-    ensures writes { WritesAll role (W.seen world.old) (W.seen world.new) result (word.now ++ (decimal number ++ codes "\n")) }
+    ensures writes { WritesAll role (W.seen world.old) (W.seen world.new) result
+        (word.now ++ (decimal number ++ codes "\n")) }
     ensures follows { W.follows world.old world.new }
 {
     let mut buffer = Buffer::new();
@@ -74,7 +77,8 @@ fn write_clause<W: World>(
     witness: &[Lit],
 ) -> Result<(), Failed>
     requires { IsTrue ((W.seen world.old).is_there role) }
-    ensures writes { WritesAll role (W.seen world.old) (W.seen world.new) result (word.now ++ (literals_text clause.now ++ (literals_text witness.now ++ codes "0\n"))) }
+    ensures writes { WritesAll role (W.seen world.old) (W.seen world.new) result
+        (word.now ++ (literals_text clause.now ++ (literals_text witness.now ++ codes "0\n"))) }
     ensures follows { W.follows world.old world.new }
 {
     write_all(world, role, word)?;

@@ -11,7 +11,8 @@ use sdcl_trail::Trail;
 /// all are assigned where each decision was made so.
 pub fn next_decision(trail: &Trail, variables: u32) -> Option<Lit>
     requires { trail.now.variables ≡ variables }
-    ensures { MatchOption result (AllAssigned variables trail.now.lits) (λ l. (1 ≤ l.var) × (l.var ≤ variables) × (names trail.now.lits l ≡ false)) }
+    ensures { MatchOption result (AllAssigned variables trail.now.lits)
+        (λ l. (1 ≤ l.var) × (l.var ≤ variables) × (names trail.now.lits l ≡ false)) }
 {
     let level = trail.level();
     match lowest_from(trail, variable_decided(trail, level), variables) {
@@ -39,7 +40,9 @@ fn lowest_from(trail: &Trail, from: u32, variables: u32) -> Option<Lit>
     requires low { 1 ≤ from }
     requires same { trail.now.variables ≡ variables }
     requires small { variables ≤ MAX_VARIABLE }
-    ensures { MatchOption result ((x : ℕ) → from ≤ x → x ≤ variables → names trail.now.lits (pos_lit x) ≡ true) (λ l. (1 ≤ l.var) × (l.var ≤ variables) × (names trail.now.lits l ≡ false)) }
+    ensures { MatchOption result ((x : ℕ) → from ≤ x → x ≤ variables
+        → names trail.now.lits (pos_lit x) ≡ true)
+        (λ l. (1 ≤ l.var) × (l.var ≤ variables) × (names trail.now.lits l ≡ false)) }
 {
     // those below `x` are assigned
     for x in from..variables + 1 {

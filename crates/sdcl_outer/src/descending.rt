@@ -1,5 +1,6 @@
 //! The way down to a conflict, to a model or to a witness.
 ghost use Rattle.std.specs.Prelude.{◌≡◌, ◌≤◌, ◌<◌, ◌+◌, IfOk, OnOk, OnErr, IsErrOf, length};
+ghost use Rattle.sdcl_base.specs.declared.lit.TheConstants.{ID_LIMIT};
 ghost use Rattle.sdcl_io.specs.World.{Rose};
 ghost use Rattle.sdcl_inner.specs.Searching.{state_of, IsInOrder};
 ghost use Rattle.sdcl_outer.specs.Coursing.{IsToldAll, Stops, Fails};
@@ -40,13 +41,17 @@ pub fn descend<S: ProofOut + JournalOut>(
     requires ready { S.ready sink.old }
     requires in_order { IsInOrder (state_of (λ s. s.slots) search.old) }
     requires wide { search.old.variables ≤ witness.old.room }
-    requires room { length search.old.clauses.slots + options.now.inner_budget < 4294967294 }
-    ensures goes { IfOk result (GoesDown (IsToldAll S.tells S.tells_events sink.old sink.new) (rules_of search.old.variables options.now) (state_of (λ s. s.slots) search.old) (state_of (λ s. s.slots) search.new) witness.new) }
-    ensures err { OnErr result (Fails (Stops S.tells S.tells_events sink.old sink.new) (rules_of search.old.variables options.now) (state_of (λ s. s.slots) search.old) 0) }
+    requires room { length search.old.clauses.slots + options.now.inner_budget < ID_LIMIT }
+    ensures goes { IfOk result (GoesDown (IsToldAll S.tells S.tells_events sink.old sink.new)
+        (rules_of search.old.variables options.now) (state_of (λ s. s.slots) search.old)
+        (state_of (λ s. s.slots) search.new) witness.new) }
+    ensures err { OnErr result (Fails (Stops S.tells S.tells_events sink.old sink.new)
+        (rules_of search.old.variables options.now) (state_of (λ s. s.slots) search.old) 0) }
     ensures room { witness.new.room ≡ witness.old.room }
     ensures ready { OnOk result (S.ready sink.new) }
     ensures later { S.faults sink.old ≤ S.faults sink.new }
-    ensures cause { IsErrOf result SolveError.WriteFault → Rose (S.faults sink.old) (S.faults sink.new) }
+    ensures cause { IsErrOf result SolveError.WriteFault
+        → Rose (S.faults sink.old) (S.faults sink.new) }
     ensures follows { S.follows sink.old sink.new }
 {
     'descending: loop {

@@ -32,12 +32,18 @@ pub fn learn<S: ProofOut + JournalOut>(
     requires distinct { (no_repeats clause.now ≡ true) × (no_repeats witness.now ≡ true) }
     requires own { same_set clause.now (complements (decisions search.old.trail)) ≡ true }
     requires first { witness.now ≢ [] → slice_get witness.now 0 ≡ slice_get clause.now 0 }
-    ensures joins { OnOk result (Joins (state_of (λ s. s.slots) search.old) (state_of (λ s. s.slots) search.new) clause.now) }
-    ensures told { OnOk result (IsToldAll S.tells S.tells_events sink.old sink.new (learning clause.now witness.now ∷ machine.Back (length search.old.trail.starts - 1) ∷ [])) }
-    ensures err { OnErr result (Stops S.tells S.tells_events sink.old sink.new (learning clause.now witness.now ∷ machine.Back (length search.old.trail.starts - 1) ∷ [])) }
+    ensures joins { OnOk result (Joins (state_of (λ s. s.slots) search.old)
+        (state_of (λ s. s.slots) search.new) clause.now) }
+    ensures told { OnOk result (IsToldAll S.tells S.tells_events sink.old sink.new
+        (learning clause.now witness.now ∷ machine.Back
+        (length search.old.trail.starts - 1) ∷ [])) }
+    ensures err { OnErr result (Stops S.tells S.tells_events sink.old sink.new
+        (learning clause.now witness.now ∷ machine.Back
+        (length search.old.trail.starts - 1) ∷ [])) }
     ensures ready { OnOk result (S.ready sink.new) }
     ensures later { S.faults sink.old ≤ S.faults sink.new }
-    ensures cause { IsErrOf result SolveError.WriteFault → Rose (S.faults sink.old) (S.faults sink.new) }
+    ensures cause { IsErrOf result SolveError.WriteFault
+        → Rose (S.faults sink.old) (S.faults sink.new) }
     ensures follows { S.follows sink.old sink.new }
 {
     let level = search.trail.level();

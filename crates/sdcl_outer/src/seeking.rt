@@ -1,6 +1,7 @@
 //! Attempts on the way down.
 ghost use Rattle.std.specs.Prelude.{◌≡◌, ◌≤◌, ◌<◌, ◌+◌, false, IfOk, OnOk, OnErr, IsErrOf, length};
 ghost use Rattle.sdcl_base.specs.Reduct.{is_off};
+ghost use Rattle.sdcl_base.specs.declared.lit.TheConstants.{ID_LIMIT};
 ghost use Rattle.sdcl_io.specs.World.{Rose};
 ghost use Rattle.sdcl_prop.specs.Seeing.{CompleteOver};
 ghost use Rattle.sdcl_inner.specs.Searching.{state_of, IsInOrder};
@@ -22,7 +23,8 @@ use std::alloc::Global;
 
 // Whether the options have a reduct solved at so many decisions.
 fn tries_here(options: &Options, trail: &Trail) -> bool
-    ensures { result ≡ tries_at (rules_of trail.now.variables options.now) (length trail.now.starts) }
+    ensures { result ≡ tries_at (rules_of trail.now.variables options.now)
+        (length trail.now.starts) }
 {
     let level = trail.level();
     options.reduct != ReductMode::Off && 1 <= level && level <= options.depth
@@ -41,9 +43,12 @@ pub fn try_here<S: ProofOut + JournalOut>(
     requires in_order { IsInOrder (state_of (λ s. s.slots) search.old) }
     requires complete { CompleteOver search.old.clauses.slots search.old.trail }
     requires wide { search.old.variables ≤ witness.old.room }
-    requires room { length search.old.clauses.slots + options.now.inner_budget < 4294967294 }
-    ensures tries { IfOk result (Tries (IsToldAll S.tells S.tells_events sink.old sink.new) (rules_of search.old.variables options.now) (state_of (λ s. s.slots) search.old) witness.new) }
-    ensures err { OnErr result (TryFails (Stops S.tells S.tells_events sink.old sink.new) (rules_of search.old.variables options.now) (state_of (λ s. s.slots) search.old)) }
+    requires room { length search.old.clauses.slots + options.now.inner_budget < ID_LIMIT }
+    ensures tries { IfOk result (Tries (IsToldAll S.tells S.tells_events sink.old sink.new)
+        (rules_of search.old.variables options.now)
+        (state_of (λ s. s.slots) search.old) witness.new) }
+    ensures err { OnErr result (TryFails (Stops S.tells S.tells_events sink.old sink.new)
+        (rules_of search.old.variables options.now) (state_of (λ s. s.slots) search.old)) }
     ensures in_order { IsInOrder (state_of (λ s. s.slots) search.new) }
     ensures trail { search.new.trail ≡ search.old.trail }
     ensures clauses { search.new.clauses ≡ search.old.clauses }
@@ -51,7 +56,8 @@ pub fn try_here<S: ProofOut + JournalOut>(
     ensures room { witness.new.room ≡ witness.old.room }
     ensures ready { OnOk result (S.ready sink.new) }
     ensures later { S.faults sink.old ≤ S.faults sink.new }
-    ensures cause { IsErrOf result SolveError.WriteFault → Rose (S.faults sink.old) (S.faults sink.new) }
+    ensures cause { IsErrOf result SolveError.WriteFault
+        → Rose (S.faults sink.old) (S.faults sink.new) }
     ensures follows { S.follows sink.old sink.new }
 {
     if tries_here(options, &search.trail) {
@@ -75,9 +81,12 @@ fn seek<S: ProofOut + JournalOut>(
     requires mode { is_off options.now.reduct ≡ false }
     requires decided { 0 < length search.old.trail.starts }
     requires wide { search.old.variables ≤ witness.old.room }
-    requires room { length search.old.clauses.slots + options.now.inner_budget < 4294967294 }
-    ensures seeks { IfOk result (Seeks (IsToldAll S.tells S.tells_events sink.old sink.new) (rules_of search.old.variables options.now) (state_of (λ s. s.slots) search.old) witness.new) }
-    ensures err { OnErr result (SeekFails (Stops S.tells S.tells_events sink.old sink.new) (rules_of search.old.variables options.now) (state_of (λ s. s.slots) search.old)) }
+    requires room { length search.old.clauses.slots + options.now.inner_budget < ID_LIMIT }
+    ensures seeks { IfOk result (Seeks (IsToldAll S.tells S.tells_events sink.old sink.new)
+        (rules_of search.old.variables options.now)
+        (state_of (λ s. s.slots) search.old) witness.new) }
+    ensures err { OnErr result (SeekFails (Stops S.tells S.tells_events sink.old sink.new)
+        (rules_of search.old.variables options.now) (state_of (λ s. s.slots) search.old)) }
     ensures in_order { IsInOrder (state_of (λ s. s.slots) search.new) }
     ensures trail { search.new.trail ≡ search.old.trail }
     ensures clauses { search.new.clauses ≡ search.old.clauses }
@@ -85,7 +94,8 @@ fn seek<S: ProofOut + JournalOut>(
     ensures room { witness.new.room ≡ witness.old.room }
     ensures ready { OnOk result (S.ready sink.new) }
     ensures later { S.faults sink.old ≤ S.faults sink.new }
-    ensures cause { IsErrOf result SolveError.WriteFault → Rose (S.faults sink.old) (S.faults sink.new) }
+    ensures cause { IsErrOf result SolveError.WriteFault
+        → Rose (S.faults sink.old) (S.faults sink.new) }
     ensures follows { S.follows sink.old sink.new }
 {
     let _level = search.trail.level();

@@ -5,7 +5,7 @@
 ghost use Rattle.std.specs.Prelude.{◌≡◌, ◌≤◌, ◌<◌, ◌+◌, length, IfOk, OnOk, OnErr, IsErrOf};
 ghost use Rattle.sdcl_io.specs.World.{Rose};
 ghost use Rattle.sdcl_base.specs.Sets.{WithinVariables};
-ghost use Rattle.sdcl_base.specs.declared.lit.TheConstants.{MAX_VARIABLE};
+ghost use Rattle.sdcl_base.specs.declared.lit.TheConstants.{ID_LIMIT, MAX_VARIABLE};
 ghost use Rattle.sdcl_store.specs.Stores.{clauses_in};
 ghost use Rattle.sdcl_outer.specs.Coursing.{IsToldAll, Stops};
 ghost use Rattle.sdcl_outer.specs.Outcome.{Answers, Breaks};
@@ -80,15 +80,21 @@ pub fn solve<S: ProofOut + JournalOut>(
     requires ready { S.ready sink.old }
     requires few_variables { variables ≤ MAX_VARIABLE }
     requires within { WithinVariables variables (clauses_in store) }
-    requires room { length store.slots + options.now.budget + options.now.inner_budget < 4294967294 }
+    requires room { length store.slots + options.now.budget + options.now.inner_budget <
+        ID_LIMIT }
     ensures follows { S.follows sink.old sink.new }
     ensures later { S.faults sink.old ≤ S.faults sink.new }
     ensures ready { OnOk result (S.ready sink.new) }
-    ensures fault { IsErrOf result SolveError.WriteFault → Rose (S.faults sink.old) (S.faults sink.new) }
-    ensures runs { IfOk result (Runs (IsToldAll S.tells S.tells_events sink.old sink.new) (rules_of variables options.now) (clauses_in store)) }
-    ensures ok { IfOk result (Answers S.tells sink.old sink.new (clauses_in store) (rules_of variables options.now)) }
-    ensures stops { OnErr result (StopsOnPath (Stops S.tells S.tells_events sink.old sink.new) (rules_of variables options.now) (clauses_in store)) }
-    ensures err { OnErr result (Breaks S.tells sink.old sink.new (clauses_in store) variables options.now.budget) }
+    ensures fault { IsErrOf result SolveError.WriteFault
+        → Rose (S.faults sink.old) (S.faults sink.new) }
+    ensures runs { IfOk result (Runs (IsToldAll S.tells S.tells_events sink.old sink.new)
+        (rules_of variables options.now) (clauses_in store)) }
+    ensures ok { IfOk result (Answers S.tells sink.old sink.new (clauses_in store)
+        (rules_of variables options.now)) }
+    ensures stops { OnErr result (StopsOnPath (Stops S.tells S.tells_events sink.old sink.new)
+        (rules_of variables options.now) (clauses_in store)) }
+    ensures err { OnErr result (Breaks S.tells sink.old sink.new
+        (clauses_in store) variables options.now.budget) }
 {
     let mut learned: u64 = 0;
     let mut witness = Witness::new(alloc, variables).map_err(|_| SolveError::NoMemory)?;

@@ -2,7 +2,7 @@
 ghost use Rattle.std.specs.Prelude.{◌≡◌, ◌≤◌, ◌<◌, ◌+◌, true, IfOk, OnOk, OnErr, IsErrOf, length};
 ghost use Rattle.sdcl_base.specs.Propagation.{refutes};
 ghost use Rattle.sdcl_base.specs.Sets.{WithinVariables};
-ghost use Rattle.sdcl_base.specs.declared.lit.TheConstants.{MAX_VARIABLE};
+ghost use Rattle.sdcl_base.specs.declared.lit.TheConstants.{ID_LIMIT, MAX_VARIABLE};
 ghost use Rattle.sdcl_io.specs.World.{Rose};
 ghost use Rattle.sdcl_store.specs.Stores.{clauses_in};
 ghost use Rattle.sdcl_inner.specs.Searching.{state_of, IsInOrder};
@@ -40,14 +40,18 @@ pub fn turn<S: ProofOut + JournalOut>(
     requires within { WithinVariables search.old.variables (clauses_in search.old.clauses) }
     requires few { search.old.variables ≤ MAX_VARIABLE }
     requires wide { search.old.variables ≤ witness.old.room }
-    requires room { length search.old.clauses.slots + options.now.inner_budget < 4294967294 }
+    requires room { length search.old.clauses.slots + options.now.inner_budget < ID_LIMIT }
     requires affordable { learned ≤ options.now.budget }
-    ensures turns { IfOk result (Turns (IsToldAll S.tells S.tells_events sink.old sink.new) (rules_of search.old.variables options.now) (state_of (λ s. s.slots) search.old) (state_of (λ s. s.slots) search.new) learned) }
-    ensures err { OnErr result (TurnFails (Stops S.tells S.tells_events sink.old sink.new) (rules_of search.old.variables options.now) (state_of (λ s. s.slots) search.old) learned) }
+    ensures turns { IfOk result (Turns (IsToldAll S.tells S.tells_events sink.old sink.new)
+        (rules_of search.old.variables options.now) (state_of (λ s. s.slots) search.old)
+        (state_of (λ s. s.slots) search.new) learned) }
+    ensures err { OnErr result (TurnFails (Stops S.tells S.tells_events sink.old sink.new)
+        (rules_of search.old.variables options.now) (state_of (λ s. s.slots) search.old) learned) }
     ensures room { witness.new.room ≡ witness.old.room }
     ensures ready { OnOk result (S.ready sink.new) }
     ensures later { S.faults sink.old ≤ S.faults sink.new }
-    ensures cause { IsErrOf result SolveError.WriteFault → Rose (S.faults sink.old) (S.faults sink.new) }
+    ensures cause { IsErrOf result SolveError.WriteFault
+        → Rose (S.faults sink.old) (S.faults sink.new) }
     ensures follows { S.follows sink.old sink.new }
 {
     let bottom = descend(alloc, options, search, witness, sink)?;
@@ -70,14 +74,19 @@ fn at_conflict<S: ProofOut + JournalOut>(
 ) -> Result<Option<Answer>, SolveError>
     requires ready { S.ready sink.old }
     requires in_order { IsInOrder (state_of (λ s. s.slots) search.old) }
-    requires conflict { refutes (clauses_in search.old.clauses) (decisions search.old.trail) ≡ true }
+    requires conflict { refutes (clauses_in search.old.clauses)
+        (decisions search.old.trail) ≡ true }
     requires room { length search.old.clauses.slots < 4294967295 }
     requires affordable { learned ≤ options.now.budget }
-    ensures turns { IfOk result (Turns (IsToldAll S.tells S.tells_events sink.old sink.new) (rules_of search.old.variables options.now) (state_of (λ s. s.slots) search.old) (state_of (λ s. s.slots) search.new) learned) }
-    ensures err { OnErr result (TurnFails (Stops S.tells S.tells_events sink.old sink.new) (rules_of search.old.variables options.now) (state_of (λ s. s.slots) search.old) learned) }
+    ensures turns { IfOk result (Turns (IsToldAll S.tells S.tells_events sink.old sink.new)
+        (rules_of search.old.variables options.now) (state_of (λ s. s.slots) search.old)
+        (state_of (λ s. s.slots) search.new) learned) }
+    ensures err { OnErr result (TurnFails (Stops S.tells S.tells_events sink.old sink.new)
+        (rules_of search.old.variables options.now) (state_of (λ s. s.slots) search.old) learned) }
     ensures ready { OnOk result (S.ready sink.new) }
     ensures later { S.faults sink.old ≤ S.faults sink.new }
-    ensures cause { IsErrOf result SolveError.WriteFault → Rose (S.faults sink.old) (S.faults sink.new) }
+    ensures cause { IsErrOf result SolveError.WriteFault
+        → Rose (S.faults sink.old) (S.faults sink.new) }
     ensures follows { S.follows sink.old sink.new }
 {
     if search.trail.level() == 0 {
@@ -108,11 +117,15 @@ fn at_total<S: ProofOut + JournalOut>(
     requires complete { CompleteOver search.old.clauses.slots search.old.trail }
     requires all { AllAssigned search.old.variables search.old.trail.lits }
     requires affordable { learned ≤ options.now.budget }
-    ensures turns { IfOk result (Turns (IsToldAll S.tells S.tells_events sink.old sink.new) (rules_of search.old.variables options.now) (state_of (λ s. s.slots) search.old) (state_of (λ s. s.slots) search.new) learned) }
-    ensures err { OnErr result (TurnFails (Stops S.tells S.tells_events sink.old sink.new) (rules_of search.old.variables options.now) (state_of (λ s. s.slots) search.old) learned) }
+    ensures turns { IfOk result (Turns (IsToldAll S.tells S.tells_events sink.old sink.new)
+        (rules_of search.old.variables options.now) (state_of (λ s. s.slots) search.old)
+        (state_of (λ s. s.slots) search.new) learned) }
+    ensures err { OnErr result (TurnFails (Stops S.tells S.tells_events sink.old sink.new)
+        (rules_of search.old.variables options.now) (state_of (λ s. s.slots) search.old) learned) }
     ensures ready { OnOk result (S.ready sink.new) }
     ensures later { S.faults sink.old ≤ S.faults sink.new }
-    ensures cause { IsErrOf result SolveError.WriteFault → Rose (S.faults sink.old) (S.faults sink.new) }
+    ensures cause { IsErrOf result SolveError.WriteFault
+        → Rose (S.faults sink.old) (S.faults sink.new) }
     ensures follows { S.follows sink.old sink.new }
 {
     let model = values_of(alloc, &search.trail, search.variables);
@@ -133,14 +146,19 @@ fn at_witness<S: ProofOut + JournalOut>(
     requires ready { S.ready sink.old }
     requires in_order { IsInOrder (state_of (λ s. s.slots) search.old) }
     requires complete { CompleteOver search.old.clauses.slots search.old.trail }
-    requires found { FindsWitness (rules_of search.old.variables options.now) (state_of (λ s. s.slots) search.old) witness.now }
+    requires found { FindsWitness (rules_of search.old.variables options.now)
+        (state_of (λ s. s.slots) search.old) witness.now }
     requires room { length search.old.clauses.slots < 4294967295 }
     requires affordable { learned ≤ options.now.budget }
-    ensures turns { IfOk result (Turns (IsToldAll S.tells S.tells_events sink.old sink.new) (rules_of search.old.variables options.now) (state_of (λ s. s.slots) search.old) (state_of (λ s. s.slots) search.new) learned) }
-    ensures err { OnErr result (TurnFails (Stops S.tells S.tells_events sink.old sink.new) (rules_of search.old.variables options.now) (state_of (λ s. s.slots) search.old) learned) }
+    ensures turns { IfOk result (Turns (IsToldAll S.tells S.tells_events sink.old sink.new)
+        (rules_of search.old.variables options.now) (state_of (λ s. s.slots) search.old)
+        (state_of (λ s. s.slots) search.new) learned) }
+    ensures err { OnErr result (TurnFails (Stops S.tells S.tells_events sink.old sink.new)
+        (rules_of search.old.variables options.now) (state_of (λ s. s.slots) search.old) learned) }
     ensures ready { OnOk result (S.ready sink.new) }
     ensures later { S.faults sink.old ≤ S.faults sink.new }
-    ensures cause { IsErrOf result SolveError.WriteFault → Rose (S.faults sink.old) (S.faults sink.new) }
+    ensures cause { IsErrOf result SolveError.WriteFault
+        → Rose (S.faults sink.old) (S.faults sink.new) }
     ensures follows { S.follows sink.old sink.new }
 {
     let _level = search.trail.level();

@@ -107,7 +107,8 @@ impl Root {
         requires within { Within self.old.variables lits.now }
         ensures rooted { IsRooted self.new }
         ensures variables { self.new.variables ≡ self.old.variables }
-        ensures ok { OnOk result (clauses_in self.new.store ≡ joined (clauses_in self.old.store) lits.now) }
+        ensures ok { OnOk result (clauses_in self.new.store ≡ joined
+            (clauses_in self.old.store) lits.now) }
         ensures err { OnErr result (clauses_in self.new.store ≡ clauses_in self.old.store) }
     {
         if self.store.slots() == u32::MAX {
@@ -195,7 +196,9 @@ impl Root {
         requires room { self.old.variables ≤ room_of marks.now }
         requires marks { MarksOf marks.now witness.now }
         ensures stays { Stays self.old self.new }
-        ensures value { result ≡ list_all (tried passes (clauses_in self.old.store) (complements clause.now) witness.now) (clauses_in self.old.store) }
+        ensures value { result ≡ list_all
+            (tried passes (clauses_in self.old.store) (complements clause.now) witness.now)
+            (clauses_in self.old.store) }
     {
         if self.is_refuted() {
             return true;

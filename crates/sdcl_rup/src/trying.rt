@@ -29,7 +29,8 @@ pub(crate) fn suppose(engine: &mut Engine, trail: &mut Trail, store: &Store, cla
     ensures keeps { Keeps engine.old engine.new }
     ensures above { Above trail.old trail.new }
     ensures value { result ≡ refuted_with store.now.slots trail.old.lits (complements clause.now) }
-    ensures reached { result ≡ false → Reached (live store.now.slots) (trail.old.lits ++ complements clause.now) trail.new.lits }
+    ensures reached { result ≡ false
+        → Reached (live store.now.slots) (trail.old.lits ++ complements clause.now) trail.new.lits }
 {
     if assume_complements(trail, clause) {
         return true;
@@ -57,7 +58,9 @@ pub(crate) fn stands_above(
     ensures covers { Covers engine.new store.now.slots }
     ensures keeps { Keeps engine.old engine.new }
     ensures above { Above trail.old trail.new }
-    ensures value { result ≡ list_all (tried passes (live store.now.slots) (trail.old.lits ++ complements clause.now) witness.now) (live store.now.slots) }
+    ensures value { result ≡ list_all
+        (tried passes (live store.now.slots) (trail.old.lits ++ complements clause.now) witness.now)
+        (live store.now.slots) }
 {
     if suppose(engine, trail, store, clause) {
         return true;
@@ -82,7 +85,8 @@ fn stands_beside_all(
     ensures covers { Covers engine.new store.now.slots }
     ensures keeps { Keeps engine.old engine.new }
     ensures trail { trail.new ≡ trail.old }
-    ensures value { result ≡ list_all (tried passes (live store.now.slots) trail.old.lits witness.now) (live store.now.slots) }
+    ensures value { result ≡ list_all
+        (tried passes (live store.now.slots) trail.old.lits witness.now) (live store.now.slots) }
 {
     for id in 0..store.slots() {
         if !stands_beside(engine, trail, store, ClauseId(id), witness, marks, passes) {
@@ -111,7 +115,8 @@ fn stands_beside(
     ensures covers { Covers engine.new store.now.slots }
     ensures keeps { Keeps engine.old engine.new }
     ensures trail { trail.new ≡ trail.old }
-    ensures value { Tries store.now.slots id.0 (tried passes (live store.now.slots) trail.old.lits witness.now) result }
+    ensures value { Tries store.now.slots id.0
+        (tried passes (live store.now.slots) trail.old.lits witness.now) result }
 {
     if !store.alive(id) {
         return true;
@@ -146,7 +151,8 @@ fn is_refuted_beside(
     ensures covers { Covers engine.new store.now.slots }
     ensures keeps { Keeps engine.old engine.new }
     ensures trail { trail.new ≡ trail.old }
-    ensures value { result ≡ refuted_with store.now.slots trail.old.lits (complements (without_complements other.now witness.now)) }
+    ensures value { result ≡ refuted_with store.now.slots trail.old.lits
+        (complements (without_complements other.now witness.now)) }
 {
     let level = trail.level();
     trail.new_level();
@@ -172,7 +178,8 @@ fn is_refuted_above(
     ensures covers { Covers engine.new store.now.slots }
     ensures keeps { Keeps engine.old engine.new }
     ensures above { Above trail.old trail.new }
-    ensures value { result ≡ refuted_with store.now.slots trail.old.lits (complements (without_complements other.now witness.now)) }
+    ensures value { result ≡ refuted_with store.now.slots trail.old.lits
+        (complements (without_complements other.now witness.now)) }
 {
     if assume_outside(trail, other, witness, marks) {
         return true;
