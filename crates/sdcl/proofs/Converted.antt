@@ -20,7 +20,6 @@ use Rattle.sdcl_convert.specs.declared.converting.Converted.{Converted}
 use Rattle.sdcl.specs.declared.loading.Loaded.{Loaded}
 use Rattle.sdcl.specs.declared.verdict.Verdict.TheVariants as verdict
 use Rattle.sdcl.specs.declared.refusal.Place.TheVariants as place
-use Rattle.sdcl.specs.declared.refusal.Trouble.{Trouble}
 use Rattle.sdcl.specs.declared.refusal.Trouble.TheVariants as trouble
 use Rattle.sdcl.specs.declared.refusal.Refusal.{Refusal}
 use Rattle.sdcl.specs.declared.refusal.Refusal.TheVariants.{Usage, Memory, At}
@@ -28,15 +27,15 @@ use Rattle.sdcl.specs.Commands.{Names}
 use Rattle.sdcl.specs.Loading.{Loads, IsLoaded, FormulaReadOut}
 use Rattle.sdcl.specs.Judging.{Judges, JudgedAs}
 use Rattle.sdcl.specs.Admitting.{Admits, IsAdmitted, AreProofSteps}
-use Rattle.sdcl.specs.Proving.{IsMade, OnlyProof}
 use Rattle.sdcl.specs.Rewriting.{Rewrites, HoldsFirst, HoldsWhole, converted_out}
 use Rattle.sdcl.specs.Starting.{IsFresh, MadeNothing}
-use Rattle.sdcl.specs.Meaning.{KeepsRest, Performs, IsShown, OutputHas, OutputRefuses, Refused}
+use Rattle.sdcl.specs.Meaning.{KeepsRest, IsMade, OnlyMade, Performs, IsShown, OutputRefuses, Refused}
 use Rattle.sdcl.specs.Checking.{checking_in}
 use Rattle.sdcl.specs.Converting.{IsProofOf, IsConvertible, HoldsConversion, converting, proven_in, variable_for}
 use Rattle.sdcl.proofs.Roles.{err_not_proof, out_not_proof, formula_not_proof, some_same}
 use Rattle.sdcl.proofs.Later.{later_on, calm_after}
 use Rattle.sdcl.proofs.Streams.{OnlyReads, one_read, reads_on, read_nothing_made, keeps_reading}
+use Rattle.sdcl.proofs.Making.{made_more, keeps_made, output_since, unmade}
 use Rattle.sdcl.proofs.Checked.{judged}
 use Rattle.sdcl.proofs.Admitted.{read_steps}
 
@@ -138,45 +137,23 @@ same_proof : {names : Names} {n : ℕ} {f : List Clause} {s0 s1 s2 : Seen} {p : 
 unfolding convertible proof_of
 same_proof h = h.admitted.keeps.0
 
-keeps : {names : Names} {name : List ℕ} {s0 s2 s3 : Seen} → OnlyReads s0 s2 → OnlyProof name s2 s3 → KeepsRest (converting names name) s0 s3
-keeps {names} {name} {s0} {s2} {s3} o w = record {
-  files = λ tells n d. w.files (subst IsTrue (sym o.later.tells) tells) n (λ q. d (inl q)) ∙ o.files n;
-  there = λ r d. w.there r (λ q. d (inl q)) ∙ o.there r;
-  held = λ r out err d. w.outputs r (λ q. d (inl q)) ∙ o.outputs r;
-  out_name = λ e. w.names output.Out out_not_proof (o.names output.Out ∙ e);
-  err_name = λ e. w.names output.Err err_not_proof (o.names output.Err ∙ e);
-  later = later_on s0 s2 s3 o.later w.later;
-}
+keeps : {names : Names} {name : List ℕ} {s0 s2 s3 : Seen} → OnlyReads s0 s2 → OnlyMade (λ n. n ≡ name) (λ role. role ≡ output.Proof) s2 s3 → KeepsRest (converting names name) s0 s3
+keeps o w = keeps_made o (made_more (λ n e. inl e) (λ role e. inl e) w) (λ e. elim e [ inl q ↦ out_not_proof q | inr q ↦ q ]) (λ e. elim e [ inl q ↦ err_not_proof q | inr q ↦ q ])
 
--- what a trouble at the output was shown by, from the start on
-output_has : (name : List ℕ) (before : Seen → Type 0) (s0 s2 s3 : Seen) (x : Trouble) → OnlyReads s0 s2 → OutputHas (converted_out name (λ u. ⊤)) s2 s3 x → OutputHas (converted_out name before) s0 s3 x
-output_has name before s0 s2 s3 trouble.Open r h =
-    (omega (arith, h.0, r.later.creates output.Proof name), record { there = h.1.there ∙ r.there output.Proof; file = h.1.file ∙ r.files name })
-output_has name before s0 s2 s3 trouble.Read r h = h
-output_has name before s0 s2 s3 trouble.Write r h = (omega (arith, h.0, r.later.writes output.Proof), h.1)
-output_has name before s0 s2 s3 (trouble.Fault kind offset) r h = h
-output_has name before s0 s2 s3 (trouble.Over limit) r h = h
-output_has name before s0 s2 s3 (trouble.Variables needed) r h = h
-
-shown : (names : Names) (name : List ℕ) (s0 s2 s3 : Seen) (e : Refusal) → IsConvertible names s0 → OnlyReads s0 s2 → s3.held output.Out ≡ s2.held output.Out → OutputRefuses (converted_out name (λ u. ⊤)) s2 s3 e
+shown : (names : Names) (name : List ℕ) (s0 s2 s3 : Seen) (e : Refusal) → IsConvertible names s0 → OnlyReads s0 s2 → s3.held output.Out ≡ s2.held output.Out → OutputRefuses (converted_out name (λ u. ⊤) ∷ []) s2 s3 e
     → IsShown (converting names name) s0 s3 e
 shown names name s0 s2 s3 Usage c o q h = absurd h
 shown names name s0 s2 s3 Memory c o q h = inl (q ∙ o.outputs output.Out)
-shown names name s0 s2 s3 (At p x) c o q h =
-    inr (inl (record { has = inl (record { place = h.0; before = c; has = output_has name (IsConvertible names) s0 s2 s3 x o h.1 }); out = q ∙ o.outputs output.Out }))
+shown names name s0 s2 s3 (At p x) c o q (inl h) =
+    inr (inl (record {
+      has = inl (record { place = h.place; before = c; has = output_since place.Output output.Proof name (λ s t. ⊤) (λ s t. IsConvertible names s) s0 s2 s3 x o h.has });
+      out = q ∙ o.outputs output.Out;
+    }))
+shown names name s0 s2 s3 (At p x) c o q (inr h) = absurd h
 
-unchanged : {s0 s2 s3 : Seen} → IsFresh s0 → OnlyReads s0 s2 → Unchanged s2 s3 → MadeNothing s0 s3
-unchanged fresh o u = record {
-  no_proof = λ there. fresh.no_proof (subst IsTrue (u.there output.Proof ∙ o.there output.Proof) there);
-  files = λ n. u.files n ∙ o.files n;
-  there = λ r. u.there r ∙ o.there r;
-  names = λ r. u.names r ∙ o.names r;
-  held = λ r out err. u.outputs r ∙ o.outputs r;
-}
-
-leaves : {names : Names} {name : List ℕ} {s0 s2 s3 : Seen} {p : Proven} (c : IsConvertible names s0) → p ≡ proven_in c.proof → IsFresh s0 → OnlyReads s0 s2 → Unchanged s2 s3 ⊎ (IsMade name s3 × HoldsFirst (lines_for p) s3)
+leaves : {names : Names} {name : List ℕ} {s0 s2 s3 : Seen} {p : Proven} (c : IsConvertible names s0) → p ≡ proven_in c.proof → IsFresh s0 → OnlyReads s0 s2 → Unchanged s2 s3 ⊎ (IsMade output.Proof name s3 × HoldsFirst (lines_for p) s3)
     → MadeNothing s0 s3 ⊎ HoldsConversion names name s0 s3
-leaves c e fresh o (inl u) = inl (unchanged fresh o u)
+leaves c e fresh o (inl u) = inl (unmade fresh o u)
 leaves {names} {name} {s0} {s2} {s3} {p} c e fresh o (inr h) = inr (record { convertible = c; made = h.0; written = subst (λ (q : Proven). HoldsFirst (lines_for q) s3) e h.1 })
 
 -- the output could not be made or written
@@ -229,7 +206,7 @@ written {names} {name} {loaded} {p} {counts} {s0} {s1} {s2} {s3} {q} {u} {r} fre
           unsatisfiable = verified_law All (clauses_in loaded.store) c.proof.steps End c.proof.refuted;
           read_out = λ tells. subst (FormulaReadOut (s0.file names.formula))
               (sym (writes.only.inputs (subst IsTrue (sym o.later.tells) tells) input.Formula
-              (λ e. differ (some_same name names.formula (sym e ∙ admits.only.stand input.Formula formula_not_proof ∙ read.stands tells)))
+              (λ n w e. differ (sym w ∙ some_same n names.formula (sym e ∙ admits.only.stand input.Formula formula_not_proof ∙ read.stands tells)))
               ∙ admits.only.inputs input.Formula formula_not_proof)) read.read_out;
         }),
         tt,

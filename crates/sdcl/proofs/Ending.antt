@@ -18,7 +18,7 @@ use Rattle.sdcl.specs.Meaning.{Input, Output, Meaning, InputHas, OutputHas, AreU
 use Rattle.sdcl.proofs.Roles.{out_not_err}
 use Rattle.sdcl.proofs.Streams.{OnlyStreams, made_nothing}
 use Rattle.sdcl.proofs.Later.{later_on, calm_after}
-use Rattle.sdcl.proofs.Laws.{IsLawfulInput, AreLawfulInputs, IsLawful}
+use Rattle.sdcl.proofs.Laws.{IsLawfulInput, AreLawfulInputs, AreLawfulOutputs, IsLawful}
 
 -- ---- a refusal stays shown while a line is said
 
@@ -48,10 +48,10 @@ any_input [] s t u p x w h = absurd h
 any_input (i ∷ is) s t u p x w (inl h) = inl (record { place = h.place; before = h.before; has = input_has i s t u x w.later h.has; unopened = unopened is s t u w h.unopened })
 any_input (i ∷ is) s t u p x w (inr h) = inr (any_input is s t u p x w h)
 
-any_output : (os : List Output) (s t u : Seen) (p : Place) (x : Trouble) → OnlyStreams t u → AnyOutputHas os s t p x → AnyOutputHas os s u p x
-any_output [] s t u p x w h = absurd h
-any_output (o ∷ os) s t u p x w (inl h) = inl (record { place = h.place; before = h.before; has = output_has o s t u x w h.has })
-any_output (o ∷ os) s t u p x w (inr h) = inr (any_output os s t u p x w h)
+any_output : (os : List Output) (s t u : Seen) (p : Place) (x : Trouble) → AreLawfulOutputs os → OnlyStreams t u → AnyOutputHas os s t p x → AnyOutputHas os s u p x
+any_output [] s t u p x k w h = absurd h
+any_output (o ∷ os) s t u p x k w (inl h) = inl (record { place = h.place; before = k.0 s t u w h.before; has = output_has o s t u x w h.has })
+any_output (o ∷ os) s t u p x k w (inr h) = inr (any_output os s t u p x k.1 w h)
 
 out_part : (m : Meaning) (s t u : Seen) → IsLawful m → OnlyStreams t u → u.held output.Out ≡ t.held output.Out → OutPart m s t → OutPart m s u
 out_part m s t u k w e h = record {
@@ -65,7 +65,7 @@ shown m s t u Usage k w q h = (h.0, q ∙ h.1)
 shown m s t u Memory k w q (inl h) = inl (q ∙ h)
 shown m s t u Memory k w q (inr h) = inr (out_part m s t u k w q h)
 shown m s t u (At p x) k w q (inl h) = inl (record { has = any_input m.reads s t u p x w h.has; made_nothing = made_nothing w h.made_nothing; out = q ∙ h.out })
-shown m s t u (At p x) k w q (inr (inl h)) = inr (inl (record { has = any_output m.makes s t u p x w h.has; out = q ∙ h.out }))
+shown m s t u (At p x) k w q (inr (inl h)) = inr (inl (record { has = any_output m.makes s t u p x k.outputs w h.has; out = q ∙ h.out }))
 shown m s t u (At p x) k w q (inr (inr h)) =
     inr (inr (record { place = h.place; trouble = h.trouble; rose = omega (arith, h.rose, w.later.writes output.Out); out = out_part m s t u k w q h.out }))
 

@@ -1,7 +1,8 @@
 -- What each command must have, it has: one row a command.
-use Rattle.std.proofs.Common.{◌≡◌, ◌≤◌, ◌∙◌, inl, inr, ℕ, List, Option, Some, None, Err, IsTrue, refl, sym, ap, subst, arith}
+use Rattle.std.proofs.Common.{◌≡◌, ◌≤◌, ◌∙◌, inl, inr, ℕ, Bool, List, [], ◌∷◌, ◌++◌, append-nil, Option, Some, None, IfSome, Err, IsTrue, refl, sym, ap, subst, arith}
 use Rattle.sdcl_base.specs.Literal.{Clause}
 use Rattle.sdcl_io.specs.declared.world.InRole.TheVariants as input
+use Rattle.sdcl_io.specs.declared.world.OutRole.{OutRole}
 use Rattle.sdcl_io.specs.declared.world.OutRole.TheVariants as output
 use Rattle.sdcl_io.specs.World.{Seen}
 use Rattle.sdcl_io.specs.Step.{Step, Ending, Judgement, Ended}
@@ -9,6 +10,9 @@ use Rattle.sdcl_dimacs.specs.FormulaText.{FormulaText, Accepted, FormulaFault, F
 use Rattle.sdcl_proof.specs.declared.step.Dialect.{Dialect}
 use Rattle.sdcl_proof.specs.declared.step.Dialect.TheVariants as dialect
 use Rattle.sdcl_proof.specs.Files.{HoldsSteps}
+use Rattle.sdcl_journal.specs.Machine.{Rules, Event, Path, Run, event_steps, steps}
+use Rattle.sdcl_journal.specs.RunOutputs.{HoldsEvents}
+use Rattle.sdcl_outer.specs.declared.solving.Answer.{Answer}
 use Rattle.sdcl_base.specs.declared.lit.TheConstants.{MAX_VARIABLE}
 use Rattle.sdcl_convert.specs.Checked.{needed}
 use Rattle.sdcl_convert.specs.Converting.{lines_for}
@@ -18,18 +22,19 @@ use Rattle.sdcl.specs.declared.loading.TheConstants.{FORMULA_LIMIT}
 use Rattle.sdcl.specs.declared.verdict.Verdict.{Verdict}
 use Rattle.sdcl.specs.declared.refusal.Refusal.TheVariants.{Usage}
 use Rattle.sdcl.specs.Starting.{IsFresh}
-use Rattle.sdcl.specs.Meaning.{Performs}
-use Rattle.sdcl.specs.Commands.{Names, Plan, Solve, Check, Drat, Convert}
-use Rattle.sdcl.specs.Loading.{StandsFor, IsSoundFormula, FormulaReadOut, formula_in}
+use Rattle.sdcl.specs.Meaning.{IsMade, Performs}
+use Rattle.sdcl.specs.Commands.{Names, SolveNames, Plan, Solve, Check, Drat, Convert}
+use Rattle.sdcl.specs.Loading.{StandsFor, IsAccepted, IsSoundFormula, FormulaReadOut, formula_in}
 use Rattle.sdcl.specs.Judging.{JudgedAs, IsReadTo, judgement, judgement_in, steps_of}
-use Rattle.sdcl.specs.Solving.{HoldsProof, IsSolved, solving}
+use Rattle.sdcl.specs.Proving.{AreMade, IsProofMade, ProofTells, JournalTells, StopsBefore, StopsWithin, WritesPath, WritesRun, outputs_of}
+use Rattle.sdcl.specs.Solving.{HasBegun, HoldsPath, IsSolved, solving}
 use Rattle.sdcl.specs.Checking.{IsJudgedAs, IsSoundProof, IsVerified, IsChecked, checking_in, proof_in}
 use Rattle.sdcl.specs.Admitting.{AreProofSteps, until_empty}
 use Rattle.sdcl.specs.Converting.{HoldsConversion, IsConverted, IsSoundToConvert, NeedsVariable, proof_to_convert, proven_in, converting}
 use Rattle.sdcl.specs.Running.{meaning_of, refusing}
-use Rattle.sdcl.proofs.Roles.{proof_not_out, proof_not_err}
+use Rattle.sdcl.proofs.Roles.{proof_not_out, proof_not_err, journal_not_out, journal_not_err}
 use Rattle.sdcl.proofs.Streams.{OnlyStreams, OnlyReads, made_nothing, read_nothing_made, keeps_reading}
-use Rattle.sdcl.proofs.Laws.{IsLawfulInput, IsLawful}
+use Rattle.sdcl.proofs.Laws.{IsLawfulInput, AreLawfulOutputs, IsLawful}
 
 -- ---- a sound text has no trouble
 
@@ -81,35 +86,129 @@ steps_stay : (s t : Seen) (steps : List Step) (torn : Option Step) → t.tells �
 steps_stay s t steps None e h k = λ tells. h ∙ k (subst IsTrue e tells)
 steps_stay s t steps (Some step) e h k = (k.0, k.1, (λ tells. h ∙ k.2 (subst IsTrue e tells)))
 
-holds_proof : (names : Names) (s t u : Seen) → OnlyStreams t u → HoldsProof names s t → HoldsProof names s u
-holds_proof names s t u w h =
-    let same : u.held output.Proof ≡ t.held output.Proof = w.outputs output.Proof proof_not_out proof_not_err in
-    record {
-      variables = h.variables;
-      clauses = h.clauses;
-      text = h.text;
-      made = record {
-        there = subst IsTrue (sym (w.there output.Proof)) h.made.there;
-        file = λ tells. w.files names.proof ∙ h.made.file (subst IsTrue w.later.tells tells) ∙ sym same;
-      };
-      written = record {
-        steps = h.written.steps;
-        torn = h.written.torn;
-        lawful = h.written.lawful;
-        holds = steps_stay t u h.written.steps h.written.torn w.later.tells same h.written.holds;
-      };
-    }
+events_stay : (s t : Seen) (events : List Event) (torn : Option Event) → t.tells ≡ s.tells → t.held output.Journal ≡ s.held output.Journal
+    → HoldsEvents output.Journal s events torn → HoldsEvents output.Journal t events torn
+events_stay s t events None e h k = λ tells. h ∙ k (subst IsTrue e tells)
+events_stay s t events (Some event) e h k = (k.0, k.1, (λ tells. h ∙ k.2 (subst IsTrue e tells)))
 
-solves : (names : Names) (s t u : Seen) (v : Verdict) → OnlyStreams t u → IsSolved names s t v → IsSolved names s u v
-unfolding holds_proof
+proof_same : {t u : Seen} → OnlyStreams t u → u.held output.Proof ≡ t.held output.Proof
+proof_same w = w.outputs output.Proof proof_not_out proof_not_err
+
+journal_same : {t u : Seen} → OnlyStreams t u → u.held output.Journal ≡ t.held output.Journal
+journal_same w = w.outputs output.Journal journal_not_out journal_not_err
+
+made_stays : {role : OutRole} {name : List ℕ} {t u : Seen} → OnlyStreams t u → (role ≡ output.Out → ⊥) → (role ≡ output.Err → ⊥) → IsMade role name t → IsMade role name u
+made_stays {role} {name} w out err h = record {
+  there = subst IsTrue (sym (w.there role)) h.there;
+  file = λ tells. w.files name ∙ h.file (subst IsTrue w.later.tells tells) ∙ sym (w.outputs role out err);
+}
+
+proof_made_stays : (proof : Option (List ℕ)) (t u : Seen) → OnlyStreams t u → IsProofMade proof t → IsProofMade proof u
+proof_made_stays None t u w h = tt
+proof_made_stays (Some p) t u w h = made_stays w proof_not_out proof_not_err h
+
+journal_made_stays : (journal : Option (List ℕ)) (t u : Seen) → OnlyStreams t u → IfSome journal (λ j. IsMade output.Journal j t) → IfSome journal (λ j. IsMade output.Journal j u)
+journal_made_stays None t u w h = tt
+journal_made_stays (Some j) t u w h = made_stays w journal_not_out journal_not_err h
+
+both_made_stay : (proof journal : Option (List ℕ)) (t u : Seen) → OnlyStreams t u → AreMade proof journal t → AreMade proof journal u
+both_made_stay proof journal t u w h = (proof_made_stays proof t u w h.0, journal_made_stays journal t u w h.1)
+
+proof_stays : (proof : Bool) (t u : Seen) (ss : List Step) (torn : Option Step) → OnlyStreams t u → ProofTells proof t ss torn → ProofTells proof u ss torn
+proof_stays proof t u ss torn w h asked = steps_stay t u ss torn w.later.tells (proof_same w) (h asked)
+
+journal_stays : (journal : Bool) (t u : Seen) (es : List Event) (torn : Option Event) → OnlyStreams t u → JournalTells journal t es torn → JournalTells journal u es torn
+journal_stays journal t u es torn w h asked = events_stay t u es torn w.later.tells (journal_same w) (h asked)
+
+within_stays : (proof journal : Bool) (t u : Seen) (done more : List Event) → OnlyStreams t u → StopsWithin proof journal t done more → StopsWithin proof journal u done more
+within_stays proof journal t u done [] w h = h
+within_stays proof journal t u done (e ∷ es) w h =
+    (proof_stays proof t u (steps done ++ event_steps e) None w h.0, elim h.1 [ inl a ↦ inl (journal_stays journal t u done None w a) | inr a ↦ inr (journal_stays journal t u done (Some e) w a) ])
+
+before_stays : (proof journal : Bool) (t u : Seen) (done more : List Event) → OnlyStreams t u → StopsBefore proof journal t done more → StopsBefore proof journal u done more
+before_stays proof journal t u done more w h = record {
+  torn = h.torn;
+  next = h.next;
+  journal_tells = journal_stays journal t u done None w h.journal_tells;
+  proof_tells = proof_stays proof t u (steps done) h.torn w h.proof_tells;
+}
+
+path_stays : {proof journal : Bool} {r : Rules} {f : List Clause} {t u : Seen} → OnlyStreams t u → WritesPath proof journal r f t → WritesPath proof journal r f u
+path_stays {proof} {journal} {r} {f} {t} {u} w h = record {
+  events = h.events;
+  path = h.path;
+  lawful = h.lawful;
+  done = h.done;
+  more = h.more;
+  parts = h.parts;
+  stops = elim h.stops [ inl a ↦ inl (before_stays proof journal t u h.done h.more w a) | inr a ↦ inr (within_stays proof journal t u h.done h.more w a) ];
+}
+
+run_stays : {proof journal : Bool} {r : Rules} {f : List Clause} {t u : Seen} {a : Answer} → OnlyStreams t u → WritesRun proof journal r f t a → WritesRun proof journal r f u a
+run_stays {proof} {journal} {r} {f} {t} {u} {a} w h = record {
+  events = h.events;
+  run = h.run;
+  ends = h.ends;
+  lawful = h.lawful;
+  proof_tells = proof_stays proof t u (steps h.events) None w h.proof_tells;
+  journal_tells = journal_stays journal t u h.events None w h.journal_tells;
+  bears = h.bears;
+}
+
+holds_path : (names : SolveNames) (s t u : Seen) → OnlyStreams t u → HoldsPath names s t → HoldsPath names s u
+holds_path names s t u w h = record {
+  variables = h.variables;
+  clauses = h.clauses;
+  text = h.text;
+  made = both_made_stay names.proof names.journal t u w h.made;
+  written = path_stays w h.written;
+}
+
+journal_file_stays : (journal : Option (List ℕ)) (s t u : Seen) → OnlyStreams t u → IfSome journal (λ j. t.file j ≡ s.file j) → IfSome journal (λ j. u.file j ≡ s.file j)
+journal_file_stays None s t u w h = tt
+journal_file_stays (Some j) s t u w h = w.files j ∙ h
+
+has_begun : (names : SolveNames) (s t u : Seen) → OnlyStreams t u → HasBegun names s t → HasBegun names s u
+has_begun names s t u w h = (
+  h.0,
+  record {
+    name = h.1.name;
+    named = h.1.named;
+    made = made_stays w proof_not_out proof_not_err h.1.made;
+    holds = steps_stay t u [] None w.later.tells (proof_same w) h.1.holds;
+    there = w.there output.Journal ∙ h.1.there;
+    file = λ tells. journal_file_stays names.journal s t u w (h.1.file tells);
+  },
+)
+
+solves : (names : SolveNames) (s t u : Seen) (v : Verdict) → OnlyStreams t u → IsSolved names s t v → IsSolved names s u v
+unfolding run_stays
 solves names s t u v w h = record {
-  proof = holds_proof names s t u w h.proof;
-  whole = h.whole;
+  variables = h.variables;
+  clauses = h.clauses;
+  text = h.text;
+  made = both_made_stay names.proof names.journal t u w h.made;
   answer = h.answer;
   is = h.is;
-  bears = h.bears;
+  written = run_stays w h.written;
   refuted = h.refuted;
   read_out = λ tells. subst (FormulaReadOut (s.file names.formula)) (sym (w.inputs input.Formula)) (h.read_out tells);
+}
+
+-- a run is a path, written whole
+run_path : (r : Rules) (f : List Clause) (es : List Event) → Run r f es → Path r f es
+unfolding Run
+run_path r f es h = h.0
+
+whole_path : {proof journal : Bool} {r : Rules} {f : List Clause} {t : Seen} {a : Answer} → WritesRun proof journal r f t a → WritesPath proof journal r f t
+whole_path {proof} {journal} {r} {f} {t} {a} h = record {
+  events = h.events;
+  path = run_path r f h.events h.run;
+  lawful = h.lawful;
+  done = h.events;
+  more = [];
+  parts = sym (append-nil h.events);
+  stops = inl (record { torn = None; next = tt; journal_tells = h.journal_tells; proof_tells = h.proof_tells });
 }
 
 verified : (d : Dialect) (names : Names) (s t u : Seen) (f : List Clause) (steps : List Step) → OnlyStreams t u → IsVerified d names s t f steps → IsVerified d names s u f steps
@@ -130,12 +229,23 @@ checks d names s t u v w h = record {
 
 -- ---- a row a command
 
-solve_lawful : (names : Names) → IsLawful (solving names)
+solve_outputs : (proof journal : Option (List ℕ)) (before : Seen → Type 0) → AreLawfulOutputs (outputs_of proof journal before)
+solve_outputs None None before = tt
+solve_outputs (Some p) None before = ((λ s t u w h. h), tt)
+solve_outputs None (Some j) before = ((λ s t u w h. (h.0, proof_made_stays None t u w h.1)), tt)
+solve_outputs (Some p) (Some j) before = ((λ s t u w h. h), ((λ s t u w h. (h.0, proof_made_stays (Some p) t u w h.1)), tt))
+
+solve_lawful : (names : SolveNames) → IsLawful (solving names)
 solve_lawful names = record {
   gives = solves names;
-  leaves = λ s t u w h. elim h [ inl a ↦ inl (made_nothing w a) | inr a ↦ inr (holds_proof names s t u w a) ];
-  left = λ s t v h. inr h.proof;
+  leaves = λ s t u w h. elim h [
+    | inl a ↦ inl (made_nothing w a)
+    | inr (inl a) ↦ inr (inl (has_begun names s t u w a))
+    | inr (inr a) ↦ inr (inr (holds_path names s t u w a))
+  ];
+  left = λ s t v h. inr (inr (record { variables = h.variables; clauses = h.clauses; text = h.text; made = h.made; written = whole_path h.written }));
   inputs = (lawful_formula names.formula, tt);
+  outputs = solve_outputs names.proof names.journal (IsAccepted names.formula);
 }
 
 check_lawful : (d : Dialect) (names : Names) → IsLawful (checking_in d names)
@@ -144,24 +254,21 @@ check_lawful d names = record {
   leaves = λ s t u w h. made_nothing w h;
   left = λ s t v h. h.made_nothing;
   inputs = (lawful_formula names.formula, (lawful_proof d names, tt));
+  outputs = tt;
 }
 
 holds_conversion : (names : Names) (name : List ℕ) (s t u : Seen) → OnlyStreams t u → HoldsConversion names name s t → HoldsConversion names name s u
 holds_conversion names name s t u w h =
-    let same : u.held output.Proof ≡ t.held output.Proof = w.outputs output.Proof proof_not_out proof_not_err in
     record {
       convertible = h.convertible;
-      made = record {
-        there = subst IsTrue (sym (w.there output.Proof)) h.made.there;
-        file = λ tells. w.files name ∙ h.made.file (subst IsTrue w.later.tells tells) ∙ sym same;
-      };
+      made = made_stays w proof_not_out proof_not_err h.made;
       written = record {
         done = h.written.done;
         more = h.written.more;
         torn = h.written.torn;
         parts = h.written.parts;
         next = h.written.next;
-        holds = steps_stay t u h.written.done h.written.torn w.later.tells same h.written.holds;
+        holds = steps_stay t u h.written.done h.written.torn w.later.tells (proof_same w) h.written.holds;
       };
     }
 
@@ -208,10 +315,11 @@ convert_lawful names name = record {
   leaves = λ s t u w h. elim h [ inl a ↦ inl (made_nothing w a) | inr a ↦ inr (holds_conversion names name s t u w a) ];
   left = λ s t v h. elim h [ inl a ↦ inr a.holds | inr a ↦ inl a.0.made_nothing ];
   inputs = (lawful_formula names.formula, (lawful_to_convert names, tt));
+  outputs = ((λ s t u w h. h), tt);
 }
 
 refusing_lawful : IsLawful refusing
-refusing_lawful = record { gives = λ s t u v w h. h; leaves = λ s t u w h. made_nothing w h; left = λ s t v h. absurd h; inputs = tt }
+refusing_lawful = record { gives = λ s t u v w h. h; leaves = λ s t u w h. made_nothing w h; left = λ s t v h. absurd h; inputs = tt; outputs = tt }
 
 pub lawful : (asked : Option Plan) → IsLawful (meaning_of asked)
 lawful None = refusing_lawful

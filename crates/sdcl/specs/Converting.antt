@@ -19,10 +19,9 @@ use Rattle.sdcl.specs.Commands.{Names}
 use Rattle.sdcl.specs.Loading.{StandsFor, FormulaReadOut, formula_in}
 use Rattle.sdcl.specs.Judging.{JudgedAs}
 use Rattle.sdcl.specs.Admitting.{AreProofSteps, until_empty}
-use Rattle.sdcl.specs.Proving.{IsMade}
 use Rattle.sdcl.specs.Rewriting.{HoldsFirst, converted_out}
 use Rattle.sdcl.specs.Starting.{MadeNothing}
-use Rattle.sdcl.specs.Meaning.{Input, Meaning}
+use Rattle.sdcl.specs.Meaning.{Input, IsMade, Meaning}
 use Rattle.sdcl.specs.Checking.{IsChecked, IsSoundProof, proof_in}
 use Rattle.sdcl.specs.Judging.{steps_of}
 
@@ -69,7 +68,7 @@ proof_to_convert names = record (proof_in Pr names) { needs = NeedsVariable name
 -- line of the next.
 pub record HoldsConversion (names : Names) (name : List ℕ) (s t : Seen) : Type 0 where
   pub convertible : IsConvertible names s
-  pub made : IsMade name t
+  pub made : IsMade output.Proof name t
   pub written : HoldsFirst (lines_for (proven_in convertible.proof)) t
 
 -- The output holds the whole of the converted proof, which refutes the formula without a witness: no total assignment meets the

@@ -6,6 +6,7 @@ pub mod Refusals
 pub mod Starting
 pub mod Meaning
 pub mod Loading
+pub mod Creating
 pub mod Proving
 pub mod Judging
 pub mod Solving

@@ -1,5 +1,5 @@
 -- What a command is to do, and what it means that a run of it ended so. A command is one `Meaning`; all else is stated once.
-use Rattle.std.specs.Prelude.{◌≡◌, ◌⊎◌, ⊤, ℕ, Bool, true, false, List, [], ◌∷◌, None, IsTrue, IsSome, Result, IfOk, IfErr}
+use Rattle.std.specs.Prelude.{◌≡◌, ◌⊎◌, ⊤, ℕ, Bool, true, false, List, [], ◌∷◌, Some, None, IsTrue, IsSome, Result, IfOk, IfErr}
 use Rattle.std.specs.Io.KnownBytes.{Appends}
 use Rattle.sdcl_io.specs.declared.world.InRole.{InRole}
 use Rattle.sdcl_io.specs.declared.world.OutRole.{OutRole}
@@ -39,8 +39,8 @@ pub record Output : Type 1 where
   pub place : Place
   pub role : OutRole
   pub name : List ℕ
-  -- what held before it was made
-  pub before : Seen → Type 0
+  -- what held at the start, and what was made, before it was made itself
+  pub before : Seen → Seen → Type 0
 
 -- a command: whether the words ask for it, what it reads, what it makes, what each verdict says, and what it leaves without one
 pub record Meaning : Type 1 where
@@ -81,12 +81,6 @@ InputRefuses i s t Usage = ⊥
 InputRefuses i s t Memory = ⊤
 InputRefuses i s t (At p x) = (p ≡ i.place) × InputHas i s t x
 
--- the same of an output
-abbrev pub OutputRefuses : Output → Seen → Seen → Refusal → Type 0
-OutputRefuses o s t Usage = ⊥
-OutputRefuses o s t Memory = ⊤
-OutputRefuses o s t (At p x) = (p ≡ o.place) × OutputHas o s t x
-
 -- none of these inputs was opened
 abbrev pub AreUnopened : List Input → Seen → Seen → Type 0
 AreUnopened [] s t = ⊤
@@ -106,12 +100,18 @@ AnyInputHas (i ∷ is) s t p x = IsInputAt i is s t p x ⊎ AnyInputHas is s t p
 -- this output is the place, and has the trouble
 pub record IsOutputAt (o : Output) (s t : Seen) (p : Place) (x : Trouble) : Type 0 where
   pub place : p ≡ o.place
-  pub before : o.before s
+  pub before : o.before s t
   pub has : OutputHas o s t x
 
 abbrev pub AnyOutputHas : List Output → Seen → Seen → Place → Trouble → Type 0
 AnyOutputHas [] s t p x = ⊥
 AnyOutputHas (o ∷ os) s t p x = IsOutputAt o s t p x ⊎ AnyOutputHas os s t p x
+
+-- the refusal is a trouble of one of these outputs, or want of memory, which is free
+abbrev pub OutputRefuses : List Output → Seen → Seen → Refusal → Type 0
+OutputRefuses os s t Usage = ⊥
+OutputRefuses os s t Memory = ⊤
+OutputRefuses os s t (At p x) = AnyOutputHas os s t p x
 
 -- ---- a run without a verdict
 
@@ -220,6 +220,21 @@ pub record KeepsRest (m : Meaning) (s t : Seen) : Type 0 where
   pub out_name : s.named output.Out ≡ None → t.named output.Out ≡ None
   pub err_name : s.named output.Err ≡ None → t.named output.Err ≡ None
   pub later : Later s t
+
+-- nothing but these files and these outputs has changed
+pub record OnlyMade (files : List ℕ → Type 0) (roles : OutRole → Type 0) (s t : Seen) : Type 0 where
+  pub others : IsTrue s.tells → (name : List ℕ) → (files name → ⊥) → t.file name ≡ s.file name
+  pub inputs : IsTrue s.tells → (r : InRole) → ((name : List ℕ) → files name → s.stands r ≡ Some name → ⊥) → t.left r ≡ s.left r
+  pub stand : (r : InRole) → t.stands r ≡ s.stands r
+  pub there : (role : OutRole) → (roles role → ⊥) → t.is_there role ≡ s.is_there role
+  pub outputs : (role : OutRole) → (roles role → ⊥) → t.held role ≡ s.held role
+  pub names : (role : OutRole) → (roles role → ⊥) → s.named role ≡ None → t.named role ≡ None
+  pub later : Later s t
+
+-- the output was made, and the file of its name holds what it holds, where files are told
+pub record IsMade (role : OutRole) (name : List ℕ) (t : Seen) : Type 0 where
+  pub there : IsTrue (t.is_there role)
+  pub file : IsTrue t.tells → t.file name ≡ t.held role
 
 -- the files of these inputs are told
 abbrev pub AreTold : List Input → Seen → Type 0

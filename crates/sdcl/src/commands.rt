@@ -1,14 +1,17 @@
 //! The words of a command.
-ghost use Rattle.std.specs.Prelude.{◌≡◌, MatchOption, IfSome, Some, None};
-ghost use Rattle.sdcl.specs.Commands.{plan_of, plan_on_two, plan_on_three, plan_in, AreApart};
+ghost use Rattle.std.specs.Prelude.{◌≡◌, ◌∷◌, true, MatchOption, IfSome, Some, None, option_map};
+ghost use Rattle.sdcl.specs.Commands.{Plan, plan_of, plan_on_one, plan_on_two, plan_on_three, plan_in, AreApart};
+ghost use Rattle.sdcl.specs.Commands.{SolveNames, solve_plan, solve_one, solve_two, solve_three, journal_in, text_of_name};
+ghost use Rattle.sdcl.specs.Commands as spec;
 
 /// What a run is to do, and to which files.
 #[derive(Clone, Copy, Debug, PartialEq, Eq)]
 pub enum Command<'w> {
-    /// Solve the formula, and write the proof.
+    /// Solve the formula, and write the proof and the journal, each where it is named.
     Solve {
         formula: &'w str,
-        proof: &'w str,
+        proof: Option<&'w str>,
+        journal: Option<&'w str>,
     },
     /// Check the proof of the formula.
     Check {
@@ -28,19 +31,38 @@ pub enum Command<'w> {
     },
 }
 
-/// The command that the words are: `solve` and two different names, `check` or `drat` and two names, or `convert` and
-/// three, the last of which differs from the others.
+// What stands before the name of a journal.
+const JOURNAL: &str = "--journal=";
+
+/// The command that the words are: `solve`, the names of the formula and perhaps of the proof, and perhaps a last word
+/// `--journal=NAME`; `check` or `drat` and two names; or `convert` and three. What is written has a name of its own.
 pub fn command_of(words: &[String]) -> Option<Command<'_>>
     ensures plan { MatchOption result (plan_of words.now ≡ None)
         (λ c. plan_of words.now ≡ Some (plan_in c)) }
     ensures apart { IfSome result (λ c. AreApart (plan_in c)) }
 {
     match words {
+        [command, formula] => on_one(command.as_str(), formula.as_str()),
         [command, formula, proof] => on_two(command.as_str(), formula.as_str(), proof.as_str()),
         [command, formula, proof, output] => {
             let output = output.as_str();
             on_three(command.as_str(), formula.as_str(), proof.as_str(), output)
         }
+        _ => None,
+    }
+}
+
+// The command with one name.
+fn on_one<'w>(command: &'w str, formula: &'w str) -> Option<Command<'w>>
+    ensures plan { MatchOption result (plan_on_one command.now formula.now ≡ None)
+        (λ c. plan_on_one command.now formula.now ≡ Some (plan_in c)) }
+    ensures apart { IfSome result (λ c. AreApart (plan_in c)) }
+{
+    match command {
+        "solve" => match journal_of(formula) {
+            Some(_) => None,
+            None => solving(formula, None, None),
+        },
         _ => None,
     }
 }
@@ -52,7 +74,10 @@ fn on_two<'w>(command: &'w str, formula: &'w str, proof: &'w str) -> Option<Comm
     ensures apart { IfSome result (λ c. AreApart (plan_in c)) }
 {
     match command {
-        "solve" if formula != proof => Some(Command::Solve { formula, proof }),
+        "solve" => match journal_of(proof) {
+            Some(journal) => solving(formula, None, Some(journal)),
+            None => solving(formula, Some(proof), None),
+        },
         "check" => Some(Command::Check { formula, proof }),
         "drat" => Some(Command::Drat { formula, proof }),
         _ => None,
@@ -72,6 +97,10 @@ fn on_three<'w>(
     ensures apart { IfSome result (λ c. AreApart (plan_in c)) }
 {
     match command {
+        "solve" => match journal_of(output) {
+            Some(journal) => solving(formula, Some(proof), Some(journal)),
+            None => None,
+        },
         "convert" if output != formula && output != proof => Some(Command::Convert {
             formula,
             proof,
@@ -79,4 +108,59 @@ fn on_three<'w>(
         }),
         _ => None,
     }
+}
+
+// The solving of these files, where what is written has a name of its own.
+fn solving<'w>(
+    formula: &'w str,
+    proof: Option<&'w str>,
+    journal: Option<&'w str>,
+) -> Option<Command<'w>>
+    ensures plan { MatchOption result
+        (solve_plan formula.now (text_of_name proof) (text_of_name journal) ≡ None)
+        (λ c. solve_plan formula.now (text_of_name proof) (text_of_name journal)
+            ≡ Some (plan_in c)) }
+    ensures apart { IfSome result (λ c. AreApart (plan_in c)) }
+{
+    if are_apart(formula, proof, journal) {
+        Some(Command::Solve {
+            formula,
+            proof,
+            journal,
+        })
+    } else {
+        None
+    }
+}
+
+// Whether what is written has a name of its own.
+fn are_apart(formula: &str, proof: Option<&str>, journal: Option<&str>) -> bool
+    ensures { result ≡ spec.are_apart formula.now (text_of_name proof) (text_of_name journal) }
+{
+    !is_name(proof, formula) && !is_name(journal, formula) && !is_same(journal, proof)
+}
+
+fn is_same(a: Option<&str>, b: Option<&str>) -> bool
+    ensures { result ≡ spec.is_same (text_of_name a) (text_of_name b) }
+{
+    match b {
+        Some(name) => is_name(a, name),
+        None => false,
+    }
+}
+
+fn is_name(own: Option<&str>, name: &str) -> bool
+    ensures { result ≡ spec.is_name (text_of_name own) name.now }
+{
+    match own {
+        Some(own) => own == name,
+        None => false,
+    }
+}
+
+// The name in a word `--journal=NAME`.
+fn journal_of(word: &str) -> Option<&str>
+    ensures { text_of_name result ≡ journal_in word.now }
+{
+    word.strip_prefix(JOURNAL)
 }

@@ -58,7 +58,11 @@ fn perform<W: World>(alloc: Global, world: &mut W, command: Command<'_>) -> Resu
     ensures follows { W.follows world.old world.new }
 {
     match command {
-        Command::Solve { formula, proof } => solve(alloc, world, formula, proof),
+        Command::Solve {
+            formula,
+            proof,
+            journal,
+        } => solve(alloc, world, formula, proof, journal),
         Command::Check { formula, proof } => check(alloc, world, formula, proof),
         Command::Drat { formula, proof } => drat(alloc, world, formula, proof),
         Command::Convert {

@@ -1,5 +1,6 @@
 //! The command `solve`: an assignment, or a proof that there is none.
 ghost use Rattle.std.specs.Prelude.{◌≡◌};
+ghost use Rattle.sdcl.specs.Commands.{Solve, AreApart, text_of_name};
 ghost use Rattle.sdcl.specs.Starting.{IsFresh};
 ghost use Rattle.sdcl.specs.Meaning.{Performs};
 ghost use Rattle.sdcl.specs.Solving.{solving, verdict_of_answer};
@@ -12,22 +13,25 @@ use sdcl_io::World;
 use sdcl_outer::Answer;
 use std::alloc::Global;
 
-/// Reads the formula, and solves it with its proof written on the way.
+/// Reads the formula, and solves it with its proof and its journal written on the way, each where it is named.
 pub fn solve<W: World>(
     alloc: Global,
     world: &mut W,
     formula: &str,
-    proof: &str,
+    proof: Option<&str>,
+    journal: Option<&str>,
 ) -> Result<Verdict, Refusal>
     requires fresh { IsFresh (W.seen world.old) }
-    requires differ { formula.now ≡ proof.now → ⊥ }
-    ensures performs { Performs (solving (record { formula = formula.now; proof = proof.now }))
+    requires apart { AreApart (Solve (record { formula = formula.now;
+        proof = text_of_name proof; journal = text_of_name journal })) }
+    ensures performs { Performs (solving (record { formula = formula.now;
+        proof = text_of_name proof; journal = text_of_name journal }))
         (W.seen world.old) (W.seen world.new) result }
     ensures follows { W.follows world.old world.new }
 {
     let loaded = load(alloc, world, formula)?;
     let variables = loaded.variables;
-    let answer = prove(alloc, world, proof, loaded)?;
+    let answer = prove(alloc, world, proof, journal, loaded)?;
     Ok(verdict_of(answer, variables))
 }
 

@@ -5,6 +5,7 @@ ghost use Rattle.sdcl.specs.Starting.{IsFresh};
 mod checking;
 mod converting;
 mod drat;
+mod journal;
 mod pigeons;
 
 use crate::run::run;
@@ -29,31 +30,46 @@ struct Ended {
     err: Vec<u8>,
     proof: Option<Vec<u8>>,
     output: Option<Vec<u8>>,
+    journal: Option<Vec<u8>>,
+}
+
+// Whether a file is there, and holds the text.
+fn is_file(held: &Option<Vec<u8>>, wanted: Option<&[u8]>) -> bool {
+    match (held, wanted) {
+        (Some(held), Some(wanted)) => held.as_slice() == wanted,
+        (None, None) => true,
+        _ => false,
+    }
+}
+
+// Whether a file is not there, or holds a prefix of the text.
+fn is_prefix(held: &Option<Vec<u8>>, whole: &[u8]) -> bool {
+    match held {
+        Some(held) => whole.starts_with(held.as_slice()),
+        None => true,
+    }
 }
 
 impl Ended {
     fn is(&self, code: u8, out: &[u8], err: &[u8], proof: Option<&[u8]>) -> bool {
-        let same_proof = match (&self.proof, proof) {
-            (Some(held), Some(wanted)) => held.as_slice() == wanted,
-            (None, None) => true,
-            _ => false,
-        };
-        self.code == code && self.out.as_slice() == out && self.err.as_slice() == err && same_proof
+        let says = self.out.as_slice() == out && self.err.as_slice() == err;
+        self.code == code && says && is_file(&self.proof, proof)
     }
 
     fn wrote(&self, output: Option<&[u8]>) -> bool {
-        match (&self.output, output) {
-            (Some(held), Some(wanted)) => held.as_slice() == wanted,
-            (None, None) => true,
-            _ => false,
-        }
+        is_file(&self.output, output)
+    }
+
+    fn told(&self, journal: Option<&[u8]>) -> bool {
+        is_file(&self.journal, journal)
     }
 
     fn leaves_a_prefix_of(&self, whole: &[u8]) -> bool {
-        match &self.proof {
-            Some(held) => whole.starts_with(held.as_slice()),
-            None => true,
-        }
+        is_prefix(&self.proof, whole)
+    }
+
+    fn tells_a_prefix_of(&self, whole: &[u8]) -> bool {
+        is_prefix(&self.journal, whole)
     }
 }
 
@@ -113,20 +129,20 @@ fn end(
     world.cut_reads(most.max(1));
     plan_failure(&mut world, failing)?;
     let code = run(alloc, &mut world, words.as_slice()).code();
-    let proof = match world.file("p") {
-        Some(held) => Some(Vec::from_slice(alloc, held)?),
-        None => None,
-    };
-    let output = match world.file("o") {
-        Some(held) => Some(Vec::from_slice(alloc, held)?),
-        None => None,
-    };
     Ok(Ended {
         code,
         out: Vec::from_slice(alloc, world.out())?,
         err: Vec::from_slice(alloc, world.err())?,
-        proof,
-        output,
+        proof: copy_of(alloc, &world, "p")?,
+        output: copy_of(alloc, &world, "o")?,
+        journal: copy_of(alloc, &world, "j")?,
+    })
+}
+
+fn copy_of(alloc: Global, world: &MemoryWorld, name: &str) -> Result<Option<Vec<u8>>, AllocError> {
+    Ok(match world.file(name) {
+        Some(held) => Some(Vec::from_slice(alloc, held)?),
+        None => None,
     })
 }
 
@@ -189,11 +205,16 @@ fn each_formula_gets_its_verdict_and_its_proof(rt: HostRuntime) -> Result<(), Fa
 
 #[test]
 fn other_words_are_a_usage_fault(rt: HostRuntime) -> Result<(), Fail> {
-    let lists: [&[&str]; 12] = [
+    let lists: [&[&str]; 17] = [
         &[],
         &["solve"],
-        &["solve", "f"],
+        &["solve", "--journal=j"],
         &["solve", "f", "f"],
+        &["solve", "f", "--journal=f"],
+        &["solve", "f", "p", "--journal=f"],
+        &["solve", "f", "p", "--journal=p"],
+        &["solve", "f", "--journal=j", "p"],
+        &["solve", "f", "p", "q", "--journal=j"],
         &["solve", "f", "p", "q"],
         &["check"],
         &["check", "f"],

@@ -1,5 +1,5 @@
 -- A path learns fewer than 9 ^ V clauses.
-use Rattle.std.proofs.Common.{◌≡◌, Bool, true, false, not, cond, List, [], ◌∷◌, ◌++◌, length, ◌⊎◌, inl, inr, refl, sym, ap, subst, ◌∙◌, ℕ, zero, suc, ◌==◌, ◌+◌, ◌*◌, ◌≤◌, ◌<◌, arith, ◌≢◌, take, ◌-◌, ◌^◌, nat_le, length-append}
+use Rattle.std.proofs.Common.{◌≡◌, Bool, true, false, not, cond, List, [], ◌∷◌, ◌++◌, length, ◌⊎◌, inl, inr, refl, sym, ap, subst, ◌∙◌, ℕ, zero, suc, ◌==◌, ◌+◌, ◌*◌, ◌≤◌, ◌<◌, arith, take, ◌^◌, nat_le, length-append}
 use Rattle.std.proofs.Math.Nat.{pow-succ', mul-le-mul_left}
 use Rattle.std.proofs.lemmas.Bool.{and_parts, false≢true, true≢false, cases_Bool, cases_lt, not-true, leb-true}
 use Rattle.std.specs.List.{list_any}
@@ -12,9 +12,6 @@ use Rattle.sdcl_io.proofs.Removing.{one, copies, copies_append, in_copies, copie
 use Rattle.sdcl_io.specs.Step.{remove_clause}
 use Rattle.sdcl_journal.proofs.Counting.{length_removed, Clean, at_most}
 use Rattle.sdcl_journal.specs.Machine.{Rules, Turn, Search, Back_due, Forgetting, Done, RunState, Event, Decide, NoWitness, InnerSpent, Learn, LearnWitness, Back, Forget, Empty, Model, Unknown, database, start, in_range, reduction_due, may_search, may_forget, Allowed, closed_by_turn, closed, with_learned, turn_after_back, one_more_gone, after, after_all, PathFrom, Path}
-use Rattle.sdcl_store.proofs.Analysing.{apart}
-use Rattle.sdcl_base.specs.declared.mode.ReductMode.{ReductMode}
-use Rattle.sdcl_base.specs.declared.mode.ReductMode.TheVariants as mode
 
 -- how many clauses have gone in this turn
 abbrev pub gone_of : Turn → ℕ

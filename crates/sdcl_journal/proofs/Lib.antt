@@ -2,3 +2,4 @@ pub mod Counting
 pub mod Bound
 pub mod PathSteps
 pub mod LongRuns
+pub mod Outputs

@@ -1,5 +1,5 @@
 -- The proof steps of a path are valid.
-use Rattle.std.proofs.Common.{◌≡◌, true, false, not, List, [], ◌∷◌, ◌++◌, inl, inr, refl, sym, ap, subst, ◌∙◌, ◌+◌, ◌≢◌, append_assoc, append-nil, ◌-◌}
+use Rattle.std.proofs.Common.{◌≡◌, true, false, not, List, [], ◌∷◌, ◌++◌, inl, inr, refl, sym, ap, subst, ◌∙◌, append_assoc, append-nil}
 use Rattle.std.proofs.lemmas.Bool.{and_parts, or_left, false≢true, true≢false, not-true, false_from_ne_true, cond-false}
 use Rattle.std.specs.List.{list_any}
 use Rattle.sdcl_base.proofs.In.{in_append_left, in_append_cases, any_in, any_from}

@@ -11,7 +11,7 @@ use Rattle.sdcl_io.proofs.Judging.{valid_verified}
 use Rattle.sdcl_journal.specs.Machine.{Rules, RunState, Turn, Event, Decide, NoWitness, InnerSpent, Learn, LearnWitness, Back, Forget, Empty, Model, Unknown, Done, Back_due, database, start, may_search, may_forget, Allowed, after, after_all, PathFrom, Path, event_steps, steps}
 use Rattle.sdcl_journal.proofs.PathSteps.{path_valid}
 use Rattle.sdcl_outer.specs.Coursing.{AreFormed, IsFormedEvent}
-use Rattle.sdcl_outer.specs.Outcome.{IsCleanOver, IsNewClause, AddsNew, NewSteps, MayComeNext, is_addition, learned_in}
+use Rattle.sdcl_outer.specs.Outcome.{IsCleanOver, IsNewClause, AddsNew, NewSteps, is_addition, learned_in}
 use Rattle.sdcl_outer.proofs.Following.{after_decide, after_no_witness, after_inner_spent, after_learn, after_learn_witness, after_back}
 use Rattle.sdcl_outer.proofs.Courses.{done_empty, done_model, done_unknown}
 

@@ -9,7 +9,6 @@ use Rattle.sdcl_base.specs.Redundancy.{is_new}
 use Rattle.sdcl_base.specs.Marks.{no_repeats}
 use Rattle.sdcl_base.specs.Values.{IsTotal, truth_of}
 use Rattle.sdcl_io.specs.Step.{Step, Add, AddWitness, Delete, All, End, Verified, adds_empty, apply, apply_all, judge, valid, ValidSteps}
-use Rattle.sdcl_io.specs.Telling.{IsTold}
 use Rattle.sdcl_base.specs.Reduct.{reduct, HasModel, is_off}
 use Rattle.sdcl_journal.specs.Machine.{Rules, covers}
 use Rattle.sdcl_outer.specs.declared.solving.Answer.{Answer}
@@ -78,18 +77,3 @@ Ends r f steps answer.Spent =
 abbrev pub learned_in : List Step → ℕ
 learned_in [] = 0
 learned_in (s ∷ ss) = if adds_empty s then learned_in ss else suc (learned_in ss)
-
--- the sink took valid steps that add new clauses, no more than the budget has, and the answer is right after them
-abbrev pub Answers : {S : Type 0} → (S → List Step → Option Step → Type 0) → S → S → List Clause → Rules → Answer → Type 0
-Answers tells old new f r a =
-    (steps : List Step) × IsTold tells old new steps None × ValidSteps f steps × Ends r f steps a × NewSteps r.variables f steps × (learned_in steps ≤ r.budget)
-
--- the step is valid over f, and its clause new there
-abbrev pub MayComeNext : ℕ → List Clause → Step → Type 0
-MayComeNext n f s = (valid f s ≡ true) × AddsNew n f s
-
--- the sink took valid steps that add new clauses, no more than the budget has, and a step that failed might have come after them
-abbrev pub Breaks : {S : Type 0} → (S → List Step → Option Step → Type 0) → S → S → List Clause → ℕ → ℕ → Type 0
-Breaks tells old new f n budget =
-    (steps : List Step) × (torn : Option Step) × IsTold tells old new steps torn × ValidSteps f steps × IfSome torn (MayComeNext n (apply_all All f steps)) × NewSteps n f steps
-    × (learned_in steps ≤ budget)

@@ -8,7 +8,6 @@ ghost use Rattle.sdcl_base.specs.Sets.{WithinVariables};
 ghost use Rattle.sdcl_base.specs.declared.lit.TheConstants.{ID_LIMIT, MAX_VARIABLE};
 ghost use Rattle.sdcl_store.specs.Stores.{clauses_in};
 ghost use Rattle.sdcl_outer.specs.Coursing.{IsToldAll, Stops};
-ghost use Rattle.sdcl_outer.specs.Outcome.{Answers, Breaks};
 ghost use Rattle.sdcl_outer.specs.Running.{Runs, StopsOnPath};
 ghost use Rattle.sdcl_outer.specs.Errors.{error_of, rules_of};
 
@@ -89,12 +88,8 @@ pub fn solve<S: ProofOut + JournalOut>(
         → Rose (S.faults sink.old) (S.faults sink.new) }
     ensures runs { IfOk result (Runs (IsToldAll S.tells S.tells_events sink.old sink.new)
         (rules_of variables options.now) (clauses_in store)) }
-    ensures ok { IfOk result (Answers S.tells sink.old sink.new (clauses_in store)
-        (rules_of variables options.now)) }
     ensures stops { OnErr result (StopsOnPath (Stops S.tells S.tells_events sink.old sink.new)
         (rules_of variables options.now) (clauses_in store)) }
-    ensures err { OnErr result (Breaks S.tells sink.old sink.new
-        (clauses_in store) variables options.now.budget) }
 {
     let mut learned: u64 = 0;
     let mut witness = Witness::new(alloc, variables).map_err(|_| SolveError::NoMemory)?;

@@ -13,34 +13,19 @@ use Rattle.sdcl_outer.specs.Running.{StopsOnPath, Runs}
 use Rattle.sdcl_outer.specs.Turning.{Closes, Gains, TurnFails, Turns}
 use Rattle.sdcl_outer.specs.declared.solving.Answer.{Answer}
 use Rattle.sdcl_outer.proofs.Telling.{all_nothing, all_on, stops_after, stops_on, refused}
-use Rattle.sdcl_outer.proofs.Outcomes.{breaks_from}
 use Rattle.sdcl_witness.specs.Witnesses.{Pair, bare_pair}
 use Rattle.sdcl_outer.specs.Outcome.{IsCleanOver}
 use Rattle.sdcl_outer.proofs.Courses.{formed_none, formed_append}
-use Rattle.sdcl_outer.proofs.Solved.{at_start, start_matches, stopped_on, run_closed, closed_answers, path_on, path_nil, matches_on, within_more}
+use Rattle.sdcl_outer.proofs.Solved.{at_start, start_matches, stopped_on, run_closed, path_on, path_nil, matches_on, within_more}
 use Rattle.sdcl_outer.proofs.solving.solve.Goals as goal
 
 pub returns-in_err-witness-clause-stops : goal.returns-in_err-witness-clause-stops
 returns-in_err-witness-clause-stops g c =
     refused c.from_residual.result (at_start g.S.ProofOut.tells g.S.JournalOut.tells_events c.args.sink.now (rules_of c.args.variables c.args.options.now) (clauses_in c.args.store))
 
-pub returns-in_err-witness-clause-err : goal.returns-in_err-witness-clause-err
-returns-in_err-witness-clause-err g c =
-    let r = rules_of c.args.variables c.args.options.now in
-    refused c.from_residual.result
-    (breaks_from g.S.ProofOut.tells g.S.JournalOut.tells_events c.args.sink.now c.args.sink.now r (clauses_in c.args.store)
-    (at_start g.S.ProofOut.tells g.S.JournalOut.tells_events c.args.sink.now r (clauses_in c.args.store)))
-
 pub returns-in_err-search-clause-stops : goal.returns-in_err-search-clause-stops
 returns-in_err-search-clause-stops g c =
     refused c.from_residual-in_err-search.result (at_start g.S.ProofOut.tells g.S.JournalOut.tells_events c.args.sink.now (rules_of c.args.variables c.args.options.now) (clauses_in c.args.store))
-
-pub returns-in_err-search-clause-err : goal.returns-in_err-search-clause-err
-returns-in_err-search-clause-err g c =
-    let r = rules_of c.args.variables c.args.options.now in
-    refused c.from_residual-in_err-search.result
-    (breaks_from g.S.ProofOut.tells g.S.JournalOut.tells_events c.args.sink.now c.args.sink.now r (clauses_in c.args.store)
-    (at_start g.S.ProofOut.tells g.S.JournalOut.tells_events c.args.sink.now r (clauses_in c.args.store)))
 
 pub learning-init : goal.learning-init
 learning-init g c =
@@ -86,22 +71,6 @@ returns-in_err-answer-clause-stops g c =
     let h : TurnFails (Stops tells te mid new) r s k = subst (λ n. TurnFails (Stops tells te mid new) (rules_of n o) s k) inv.variables c.in_err-answer.ensures.err in
     refused c.from_residual-in_err-answer.result (stopped_on tells te old mid new r f inv.events s k inv.told inv.path inv.formed inv.matches h)
 
-pub returns-in_err-answer-clause-err : goal.returns-in_err-answer-clause-err
-returns-in_err-answer-clause-err g c =
-    let te = g.S.JournalOut.tells_events in
-    let tells = g.S.ProofOut.tells in
-    let inv = c.learning.invariant in
-    let o = c.args.options.now in
-    let r = rules_of c.args.variables o in
-    let f = clauses_in c.args.store in
-    let k = c.learning.learned in
-    let s = state_of (λ x. x.slots) c.learning.search in
-    let old = c.args.sink.now in
-    let mid = c.learning.sink in
-    let new = c.turn.new.sink in
-    let h : TurnFails (Stops tells te mid new) r s k = subst (λ n. TurnFails (Stops tells te mid new) (rules_of n o) s k) inv.variables c.in_err-answer.ensures.err in
-    refused c.from_residual-in_err-answer.result (breaks_from tells te old new r f (stopped_on tells te old mid new r f inv.events s k inv.told inv.path inv.formed inv.matches h))
-
 pub returns-in-Some-clause-runs : goal.returns-in-Some-clause-runs
 returns-in-Some-clause-runs g c =
     let te = g.S.JournalOut.tells_events in
@@ -119,26 +88,7 @@ returns-in-Some-clause-runs g c =
     let turned : Turns (IsToldAll tells te mid new) r s t k (Some c.in-Some.answer) =
     subst (λ n. Turns (IsToldAll tells te mid new) (rules_of n o) s t k (Some c.in-Some.answer)) inv.variables
     (subst (Turns (IsToldAll tells te mid new) (rules_of s.variables o) s t k) c.in-Some.is c.in_ok-answer.ensures.turns) in
-    run_closed tells te old mid new r f inv.events s k c.in-Some.answer inv.told inv.path inv.formed inv.matches turned
-
-pub returns-in-Some-clause-ok : goal.returns-in-Some-clause-ok
-returns-in-Some-clause-ok g c =
-    let te = g.S.JournalOut.tells_events in
-    let tells = g.S.ProofOut.tells in
-    let inv = c.learning.invariant in
-    let o = c.args.options.now in
-    let r = rules_of c.args.variables o in
-    let f = clauses_in c.args.store in
-    let k = c.learning.learned in
-    let s = state_of (λ x. x.slots) c.learning.search in
-    let old = c.args.sink.now in
-    let mid = c.learning.sink in
-    let new = c.turn.new.sink in
-    let t = state_of (λ x. x.slots) c.turn.new.search in
-    let turned : Turns (IsToldAll tells te mid new) r s t k (Some c.in-Some.answer) =
-    subst (λ n. Turns (IsToldAll tells te mid new) (rules_of n o) s t k (Some c.in-Some.answer)) inv.variables
-    (subst (Turns (IsToldAll tells te mid new) (rules_of s.variables o) s t k) c.in-Some.is c.in_ok-answer.ensures.turns) in
-    closed_answers tells te old mid new r f inv.learned inv.events s k c.in-Some.answer inv.told inv.path inv.formed inv.matches inv.joined turned
+    run_closed tells te old mid new r f inv.learned inv.events s k c.in-Some.answer inv.told inv.path inv.formed inv.matches inv.joined turned
 
 pub learning-preserved : goal.learning-preserved
 learning-preserved g c =
