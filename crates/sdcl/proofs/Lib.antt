@@ -7,6 +7,7 @@ pub mod Streams
 pub mod Making
 pub mod Laws
 pub mod Ending
+pub mod Writing
 pub mod Proved
 pub mod Solved
 pub mod Checked

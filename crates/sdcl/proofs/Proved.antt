@@ -1,5 +1,5 @@
 -- What the making of proof and journal and the solving together did.
-use Rattle.std.proofs.Common.{◌≡◌, ◌∙◌, ◌⊎◌, inl, inr, ℕ, true, false, List, [], Option, Some, None, Result, Ok, Err, IfSome, IsTrue, IfErr, OnErr, refl, sym, ap, subst, arith}
+use Rattle.std.proofs.Common.{◌≡◌, ◌∙◌, ◌⊎◌, inl, inr, ℕ, Bool, true, false, List, [], Option, Some, None, Result, Ok, Err, IfSome, IsTrue, IfOk, IfErr, OnErr, refl, sym, ap, subst, arith}
 use Rattle.std.specs.Prelude.{⊤, is_some}
 use Rattle.sdcl_base.specs.Literal.{Clause}
 use Rattle.sdcl_io.specs.declared.world.OutRole.{OutRole}
@@ -108,52 +108,34 @@ both (Some p) (Some j) s t u r x d q h k =
       new_journal = is_new c;
     }
 
-pub makes : {proof journal : Option (List ℕ)} {s t u : Seen} {q r : Result Unit Refusal} {x y : Unit} → AreDifferent proof journal → q ≡ Ok x → r ≡ Ok y → CreatesWhere place.Proof output.Proof proof s t q
+pub makes : {proof journal : Option (List ℕ)} {s : Seen} (t : Seen) {u : Seen} {q r : Result Unit Refusal} {x y : Unit} → AreDifferent proof journal → q ≡ Ok x → r ≡ Ok y → CreatesWhere place.Proof output.Proof proof s t q
     → CreatesWhere place.Journal output.Journal journal t u r → Created proof journal s u
-makes {proof} {journal} {s} {t} {u} {q} {r} {x} {y} d e f h k = both proof journal s t u r y d f (first proof journal s t q x e h) k
+makes {proof} {journal} {s} t {u} {q} {r} {x} {y} d e f h k = both proof journal s t u r y d f (first proof journal s t q x e h) k
 
 -- ---- before the solving
 
 pub proof_there : {proof journal : Option (List ℕ)} {s t : Seen} → Created proof journal s t → IsTrue (is_some proof) → IsTrue (t.is_there output.Proof)
-proof_there {None} h some = absurd (never some)
-proof_there {Some p} h some = h.new_proof.there
+proof_there {proof = None} h some = absurd (never some)
+proof_there {proof = Some p} h some = h.new_proof.there
 
 pub journal_there : {proof journal : Option (List ℕ)} {s t : Seen} → Created proof journal s t → IsTrue (is_some journal) → IsTrue (t.is_there output.Journal)
-journal_there {proof} {None} h some = absurd (never some)
-journal_there {proof} {Some j} h some = h.new_journal.there
+journal_there {journal = None} h some = absurd (never some)
+journal_there {journal = Some j} h some = h.new_journal.there
 
 pub proof_empty : {proof journal : Option (List ℕ)} {s t : Seen} → Created proof journal s t → IsTrue (is_some proof) → HoldsSteps output.Proof t [] None
 unfolding text_of
-proof_empty {None} h some = absurd (never some)
-proof_empty {Some p} h some = h.new_proof.empty
+proof_empty {proof = None} h some = absurd (never some)
+proof_empty {proof = Some p} h some = h.new_proof.empty
 
 pub journal_empty : {proof journal : Option (List ℕ)} {s t : Seen} → Created proof journal s t → IsTrue (is_some journal) → HoldsEvents output.Journal t [] None
 unfolding journal_text
-journal_empty {proof} {None} h some = absurd (never some)
-journal_empty {proof} {Some j} h some = h.new_journal.empty
+journal_empty {journal = None} h some = absurd (never some)
+journal_empty {journal = Some j} h some = h.new_journal.empty
 
 -- ---- a making failed
 
-err_not_ok : (e : Refusal) {x : Unit} → Err e ≡ Ok x → ⊥
-err_not_ok e q = cc
-
-proof_refuses : (p : List ℕ) (journal : Option (List ℕ)) (s t : Seen) (f : Failed) → Creates output.Proof p s t (Err f) → OutputRefuses (outputs_of (Some p) journal (λ u. ⊤)) s t (blamed place.Proof trouble.Open f)
-proof_refuses p journal s t Fault h =
-    inl (record { place = refl; before = tt; has = (h.cause refl, record { there = h.failed.there output.Proof; file = h.failed.files p }) })
-proof_refuses p journal s t NoMemory h = tt
-
-pub proof_fails : {proof journal : Option (List ℕ)} {n budget : ℕ} {f : List Clause} {s t : Seen} {r : Result Unit Refusal} {e : Refusal} → r ≡ Err e → CreatesWhere place.Proof output.Proof proof s t r
-    → Proves proof journal n budget f s t (Err e)
-proof_fails {None} {journal} {n} {budget} {f} {s} {t} {r} {e} q h = absurd (err_not_ok e (sym q ∙ h.1))
-proof_fails {Some p} {journal} {n} {budget} {f} {s} {t} {r} {e} q h =
-    let k : IsRefusal place.Proof output.Proof p s t e = making_err q h in
-    record {
-      only = made_more (proof_written p journal) (λ r e. inl e) (made_created k.creates);
-      calm = k.creates.calm;
-      ok = tt;
-      err = subst (OutputRefuses (outputs_of (Some p) journal (λ u. ⊤)) s t) (sym k.is) (proof_refuses p journal s t k.failed k.creates);
-      left = inl (k.creates.failed);
-    }
+err_not_ok : (r : Result Unit Refusal) (e : Refusal) (x : Unit) → r ≡ Err e → r ≡ Ok x → ⊥
+err_not_ok r e x h k = cc
 
 proof_is_made : (proof journal : Option (List ℕ)) (s t u : Seen) → First proof journal s t → Unchanged t u → Later t u → IsProofMade proof u
 proof_is_made None journal s t u h k l = tt
@@ -198,19 +180,20 @@ left_begun : {proof journal : Option (List ℕ)} {n budget : ℕ} {f : List Clau
 left_begun (inl h) = inl h
 left_begun (inr h) = inr (inl h)
 
-pub journal_fails : {proof journal : Option (List ℕ)} {n budget : ℕ} {f : List Clause} {s t u : Seen} {q r : Result Unit Refusal} {x : Unit} {e : Refusal} → AreDifferent proof journal → q ≡ Ok x → r ≡ Err e
-    → CreatesWhere place.Proof output.Proof proof s t q → CreatesWhere place.Journal output.Journal journal t u r → Proves proof journal n budget f s u (Err e)
-journal_fails {proof} {None} {n} {budget} {f} {s} {t} {u} {q} {r} {x} {e} d a b h k = absurd (err_not_ok e (sym b ∙ k.1))
-journal_fails {proof} {Some j} {n} {budget} {f} {s} {t} {u} {q} {r} {x} {e} d a b h k =
+pub journal_fails : {proof journal : Option (List ℕ)} {n budget : ℕ} {f : List Clause} {s : Seen} (t : Seen) {u : Seen} {q r : Result Unit Refusal} {x : Unit} {e : Refusal} → AreDifferent proof journal → q ≡ Ok x → r ≡ Err e
+    → CreatesWhere place.Proof output.Proof proof s t q → CreatesWhere place.Journal output.Journal journal t u r → (v : Result Answer Refusal) → v ≡ Err e → Proves proof journal n budget f s u v
+journal_fails {proof} {journal = None} {n} {budget} {f} {s} t {u} {q} {r} {x} {e} d a b h k v z = absurd (err_not_ok r e tt b k.1)
+journal_fails {proof} {journal = Some j} {n} {budget} {f} {s} t {u} {q} {r} {x} {e} d a b h k v z =
     let c : IsRefusal place.Journal output.Journal j t u e = making_err b k in
     let m : First proof (Some j) s t = first proof (Some j) s t q x a h in
-    record {
+    subst (Proves proof (Some j) n budget f s u) (sym z)
+    (record {
       only = made_on m.only (made_more (journal_written proof j) (journal_made proof j) (made_created c.creates));
       calm = calm_after m.calm m.only.later c.creates.calm;
       ok = tt;
       err = subst (OutputRefuses (outputs_of proof (Some j) (λ y. ⊤)) s u) (sym c.is) (journal_refuses proof j s t u c.failed d m c.creates);
       left = left_begun (begun proof j s t u d m c.creates.failed c.creates.later);
-    }
+    })
 
 -- ---- the solving
 
@@ -296,9 +279,9 @@ journal_is_made proof (Some j) t u d h w = made_run (IsRunOutput (is_some proof)
 
 -- ---- the whole
 
-pub proved : {proof journal : Option (List ℕ)} {n budget : ℕ} {f : List Clause} {s t u : Seen} {r : Result Answer Refusal} {a : Answer} → AreDifferent proof journal → r ≡ Ok a → Created proof journal s t
+proved : {proof journal : Option (List ℕ)} {n budget : ℕ} {f : List Clause} {s t u : Seen} {a : Answer} → AreDifferent proof journal → Created proof journal s t
     → RunOnward (IsRunOutput (is_some proof) (is_some journal)) t u → WritesRun (is_some proof) (is_some journal) (rules n budget) f u a → Proves proof journal n budget f s u (Ok a)
-proved {proof} {journal} {n} {budget} {f} {s} {t} {u} d e h w k = record {
+proved {proof} {journal} {n} {budget} {f} {s} {t} {u} d h w k = record {
   only = made_on h.only (run_made proof journal t u (h.new_proof, h.new_journal) w);
   calm = calm_after h.calm h.only.later w.calm;
   ok = ((proof_made proof journal t u d (h.new_proof, h.new_journal) w, journal_is_made proof journal t u d (h.new_proof, h.new_journal) w), k);
@@ -329,10 +312,10 @@ writing_refuses proof journal s t u (At p x) l m h =
     (subst (λ (y : Place). OutputRefuses (outputs_of proof journal (λ z. ⊤)) s u (At y trouble.Write)) (sym h.place)
     (written_at proof journal s u h.role m h.out (omega (arith, h.rose, l.writes h.role))))
 
-pub writing_fails : {proof journal : Option (List ℕ)} {n budget : ℕ} {f : List Clause} {s t u : Seen} {r : Result Answer Refusal} {e : Refusal} → AreDifferent proof journal → r ≡ Err e → Created proof journal s t
+writing_fails : {proof journal : Option (List ℕ)} {n budget : ℕ} {f : List Clause} {s t u : Seen} {e : Refusal} → AreDifferent proof journal → Created proof journal s t
     → RunOnward (IsRunOutput (is_some proof) (is_some journal)) t u → FailsWriting (is_some proof) (is_some journal) t u e → WritesPath (is_some proof) (is_some journal) (rules n budget) f u
     → Proves proof journal n budget f s u (Err e)
-writing_fails {proof} {journal} {n} {budget} {f} {s} {t} {u} {r} {e} d q h w x k =
+writing_fails {proof} {journal} {n} {budget} {f} {s} {t} {u} {e} d h w x k =
     let m : AreMade proof journal u = (proof_made proof journal t u d (h.new_proof, h.new_journal) w, journal_is_made proof journal t u d (h.new_proof, h.new_journal) w) in
     record {
       only = made_on h.only (run_made proof journal t u (h.new_proof, h.new_journal) w);
@@ -341,3 +324,17 @@ writing_fails {proof} {journal} {n} {budget} {f} {s} {t} {u} {r} {e} d q h w x k
       err = writing_refuses proof journal s t u e h.only.later m x;
       left = inr (inr (m, k));
     }
+
+-- what the whole did, by what the writing of these two did
+abbrev Finishes : Option (List ℕ) → Option (List ℕ) → ℕ → ℕ → List Clause → Seen → Seen → Seen → Result Answer Refusal → Bool → Bool → Type 0
+Finishes proof journal n budget f s t u r p j =
+    RunOnward (IsRunOutput p j) t u → IfOk r (λ a. WritesRun p j (rules n budget) f u a) → IfErr r (λ e. FailsWriting p j t u e) → OnErr r (WritesPath p j (rules n budget) f u) → Proves proof journal n budget f s u r
+
+whole : (proof journal : Option (List ℕ)) (n budget : ℕ) (f : List Clause) (s t u : Seen) (r : Result Answer Refusal) → AreDifferent proof journal → Created proof journal s t → Finishes proof journal n budget f s t u r (is_some proof) (is_some journal)
+whole proof journal n budget f s t u (Ok a) d h w ok err stops = proved d h w ok
+whole proof journal n budget f s t u (Err e) d h w ok err stops = writing_fails d h w err stops
+
+pub finished : {proof journal : Option (List ℕ)} {n budget : ℕ} {f : List Clause} {s t u : Seen} {r : Result Answer Refusal} {p j : Bool} → is_some proof ≡ p → is_some journal ≡ j → AreDifferent proof journal → Created proof journal s t
+    → RunOnward (IsRunOutput p j) t u → IfOk r (λ a. WritesRun p j (rules n budget) f u a) → IfErr r (λ e. FailsWriting p j t u e) → OnErr r (WritesPath p j (rules n budget) f u) → Proves proof journal n budget f s u r
+finished {proof} {journal} {n} {budget} {f} {s} {t} {u} {r} {p} {j} e k d h =
+    subst (λ x. Finishes proof journal n budget f s t u r x j) e (subst (λ y. Finishes proof journal n budget f s t u r (is_some proof) y) k (whole proof journal n budget f s t u r d h))

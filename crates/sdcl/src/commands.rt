@@ -117,8 +117,8 @@ fn solving<'w>(
     journal: Option<&'w str>,
 ) -> Option<Command<'w>>
     ensures plan { MatchOption result
-        (solve_plan formula.now (text_of_name proof) (text_of_name journal) ≡ None)
-        (λ c. solve_plan formula.now (text_of_name proof) (text_of_name journal)
+        (solve_plan formula.now (text_of_name proof.entry) (text_of_name journal.entry) ≡ None)
+        (λ c. solve_plan formula.now (text_of_name proof.entry) (text_of_name journal.entry)
             ≡ Some (plan_in c)) }
     ensures apart { IfSome result (λ c. AreApart (plan_in c)) }
 {
@@ -135,13 +135,13 @@ fn solving<'w>(
 
 // Whether what is written has a name of its own.
 fn are_apart(formula: &str, proof: Option<&str>, journal: Option<&str>) -> bool
-    ensures { result ≡ spec.are_apart formula.now (text_of_name proof) (text_of_name journal) }
+    ensures { result ≡ spec.are_apart formula.now (text_of_name proof.entry) (text_of_name journal.entry) }
 {
     !is_name(proof, formula) && !is_name(journal, formula) && !is_same(journal, proof)
 }
 
 fn is_same(a: Option<&str>, b: Option<&str>) -> bool
-    ensures { result ≡ spec.is_same (text_of_name a) (text_of_name b) }
+    ensures { result ≡ spec.is_same (text_of_name a.entry) (text_of_name b.entry) }
 {
     match b {
         Some(name) => is_name(a, name),
@@ -150,7 +150,7 @@ fn is_same(a: Option<&str>, b: Option<&str>) -> bool
 }
 
 fn is_name(own: Option<&str>, name: &str) -> bool
-    ensures { result ≡ spec.is_name (text_of_name own) name.now }
+    ensures { result ≡ spec.is_name (text_of_name own.entry) name.now }
 {
     match own {
         Some(own) => own == name,

@@ -25,7 +25,7 @@ pub fn solve<W: World>(
     requires apart { AreApart (Solve (record { formula = formula.now;
         proof = text_of_name proof; journal = text_of_name journal })) }
     ensures performs { Performs (solving (record { formula = formula.now;
-        proof = text_of_name proof; journal = text_of_name journal }))
+        proof = text_of_name proof.entry; journal = text_of_name journal.entry }))
         (W.seen world.old) (W.seen world.new) result }
     ensures follows { W.follows world.old world.new }
 {
