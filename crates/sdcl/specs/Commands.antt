@@ -80,11 +80,15 @@ plan_on_two w f p =
     else if bytes_eq w (codes "drat") then Some (Drat (record { formula = f; proof = p }))
     else None
 
--- `solve` and three names; or `convert` and three, the last of which differs from the others
+-- a conversion, where the name of its output differs from the others
+abbrev pub convert_plan : List ℕ → List ℕ → List ℕ → Option Plan
+convert_plan f p o = if not (bytes_eq o f) && not (bytes_eq o p) then Some (Convert (record { formula = f; proof = p }) o) else None
+
+-- `solve` or `convert` and three names
 abbrev pub plan_on_three : List ℕ → List ℕ → List ℕ → List ℕ → Option Plan
 plan_on_three w f p o =
     if bytes_eq w (codes "solve") then solve_three f p (journal_in o)
-    else if bytes_eq w (codes "convert") && (not (bytes_eq o f) && not (bytes_eq o p)) then Some (Convert (record { formula = f; proof = p }) o)
+    else if bytes_eq w (codes "convert") then convert_plan f p o
     else None
 
 -- a command and its names; other words ask for nothing

@@ -1,7 +1,7 @@
 //! The words of a command.
-ghost use Rattle.std.specs.Prelude.{◌≡◌, ◌∷◌, true, MatchOption, IfSome, Some, None, option_map};
-ghost use Rattle.sdcl.specs.Commands.{Plan, plan_of, plan_on_one, plan_on_two, plan_on_three, plan_in, AreApart};
-ghost use Rattle.sdcl.specs.Commands.{SolveNames, solve_plan, solve_one, solve_two, solve_three, journal_in, text_of_name};
+ghost use Rattle.std.specs.Prelude.{◌≡◌, MatchOption, IfSome, Some, None};
+ghost use Rattle.sdcl.specs.Commands.{plan_of, plan_on_one, plan_on_two, plan_on_three, plan_in, AreApart};
+ghost use Rattle.sdcl.specs.Commands.{solve_plan, convert_plan, journal_in, text_of_name};
 ghost use Rattle.sdcl.specs.Commands as spec;
 
 /// What a run is to do, and to which files.
@@ -101,12 +101,25 @@ fn on_three<'w>(
             Some(journal) => solving(formula, Some(proof), Some(journal)),
             None => None,
         },
-        "convert" if output != formula && output != proof => Some(Command::Convert {
+        "convert" => converting(formula, proof, output),
+        _ => None,
+    }
+}
+
+// The conversion of these files, where what is written has a name of its own.
+fn converting<'w>(formula: &'w str, proof: &'w str, output: &'w str) -> Option<Command<'w>>
+    ensures plan { MatchOption result (convert_plan formula.now proof.now output.now ≡ None)
+        (λ c. convert_plan formula.now proof.now output.now ≡ Some (plan_in c)) }
+    ensures apart { IfSome result (λ c. AreApart (plan_in c)) }
+{
+    if output != formula && output != proof {
+        Some(Command::Convert {
             formula,
             proof,
             output,
-        }),
-        _ => None,
+        })
+    } else {
+        None
     }
 }
 
