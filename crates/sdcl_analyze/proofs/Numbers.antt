@@ -84,6 +84,18 @@ joined_from xs x y h =
       ]
     ]
 
+or_absorbs : (a b : Bool) → (b ≡ true → a ≡ true) → a ≡ (a || b)
+or_absorbs true b h = refl
+or_absorbs false true h = h refl
+or_absorbs false false h = refl
+
+pub joined_has : (xs : List ℕ) (x y : ℕ) → has_number (adjoined xs x) y ≡ (has_number xs y || (y == x))
+joined_has xs x y =
+    elim (cases_Bool (has_number xs x)) [
+      | inl e ↦ ap (λ zs. has_number zs y) (joined_old xs x e) ∙ or_absorbs (has_number xs y) (y == x) (λ h. ap (has_number xs) (eqb-true y x h) ∙ e)
+      | inr e ↦ ap (λ zs. has_number zs y) (joined_new xs x e) ∙ has_more xs x y
+    ]
+
 pub joined_end : (xs : List ℕ) (c : Clause) (l : Literal) → adjoined_all xs (c ++ l ∷ []) ≡ adjoined (adjoined_all xs c) l.var
 joined_end xs [] l = refl
 joined_end xs (m ∷ c) l = joined_end (adjoined xs m.var) c l

@@ -19,7 +19,8 @@ levels_of_clause levels c = length (distinct (map (λ m. level_of levels (negate
 
 -- the clause is what analysis gives of the levels and the false clause d. It may be learned over f,
 -- and asserts its first literal at the back level
-pub record IsLearned (f : List Clause) (levels : List Level) (d clause : Clause) (back glue : ℕ) : Type 0 where
+pub record IsLearned (f : List Clause) (levels : List Level) (d clause : Clause)
+    (back glue : ℕ) : Type 0 where
   pub is : same_set clause (analysis levels d) ≡ true
   pub apart : no_variable_twice clause ≡ true
   pub sound : Learned f levels clause

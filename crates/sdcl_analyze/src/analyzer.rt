@@ -16,7 +16,8 @@ use sdcl_trail::Trail;
 use std::alloc::Global;
 use std::marker::Model;
 
-/// What a conflict teaches. The clause is false under the trail, its first literal alone on the last level.
+/// What a conflict teaches. The clause is false under the trail, its first literal alone on the
+/// last level.
 #[derive(Drop)]
 pub struct Learned<'a> {
     pub clause: &'a [Lit],
@@ -55,9 +56,11 @@ impl Model for Analyzer {
 
     ghost coded = { analyzed_code };
 
-    ghost view = { λ a. record { variables = a.variables; clause = a.clause.items; back = a.back_level; glue = a.glue; seen = a.seen.members } };
+    ghost view = { λ a. record { variables = a.variables; clause = a.clause.items; back =
+        a.back_level; glue = a.glue; seen = a.seen.members } };
 
-    ghost invariant = { λ a. IsRoomy a.variables a.marked a.entered a.covered a.seen a.levels a.lower a.clause a.stack };
+    ghost invariant = { λ a. IsRoomy a.variables a.marked a.entered a.covered a.seen a.levels
+        a.lower a.clause a.stack };
 }
 
 impl Analyzer {
@@ -82,8 +85,10 @@ impl Analyzer {
         })
     }
 
-    /// The clause of the first unique implication point of a clause that is false under the trail, without the literals
-    /// that the others imply. It takes time in what it visits: the last level back to that point, and each reason that
+    /// The clause of the first unique implication point of a clause that is false under the trail,
+    /// without the literals
+    /// that the others imply. It takes time in what it visits: the last level back to that point,
+    /// and each reason that
     /// it resolves on or searches.
     pub fn learn<'a, C: Clauses>(
         &'a mut self,
