@@ -3,7 +3,7 @@ ghost use Rattle.std.specs.Prelude.{◌≡◌, ◌≤◌, length, vec_capacity, 
 ghost use Rattle.std.specs.Borrow.{sem};
 ghost use Rattle.sdcl_base.specs.declared.lit.TheConstants.{MAX_VARIABLE};
 ghost use Rattle.sdcl_prop.specs.Seeing.{FitsOver, IsFalsified};
-ghost use Rattle.sdcl_analyze.specs.Learning.{LearnsFrom, ListsSeen};
+ghost use Rattle.sdcl_analyze.specs.Learning.{LearnsFrom, ListsFrom};
 ghost use Rattle.sdcl_analyze.specs.Lending.{KeepsVariables};
 
 use crate::measures::{back_level, glue, note};
@@ -56,8 +56,14 @@ impl Model for Analyzer {
 
     ghost coded = { analyzed_code };
 
-    ghost view = { λ a. record { variables = a.variables; clause = a.clause.items; back =
-        a.back_level; glue = a.glue; seen = a.seen.members } };
+    ghost view = { λ a.
+        record {
+          variables = a.variables;
+          clause = a.clause.items;
+          back = a.back_level;
+          glue = a.glue;
+          seen = a.seen.members;
+        } };
 
     ghost invariant = { λ a. IsRoomy a.variables a.marked a.entered a.covered a.seen a.levels
         a.lower a.clause a.stack };
@@ -103,7 +109,8 @@ impl Analyzer {
         ensures* writes_back { sem 𝓛 (KeepsVariables self.entry) }
         ensures learned { LearnsFrom (C.clauses clauses.now) trail.now conflict
             result.clause.now result.back_level result.glue }
-        ensures seen { ListsSeen trail.now.variables result.clause.now result.seen.now }
+        ensures seen { ListsFrom (C.clauses clauses.now) trail.now conflict
+            result.clause.now result.seen.now }
     {
         self.analyse(trail, clauses, conflict);
         self.learned()
@@ -118,7 +125,8 @@ impl Analyzer {
         ensures variables { self.new.variables ≡ self.old.variables }
         ensures learned { LearnsFrom (C.clauses clauses.now) trail.now conflict
             self.new.clause self.new.back self.new.glue }
-        ensures seen { ListsSeen trail.now.variables self.new.clause self.new.seen }
+        ensures seen { ListsFrom (C.clauses clauses.now) trail.now conflict
+            self.new.clause self.new.seen }
     {
         let _level = trail.level();
         self.marked.clear();
