@@ -23,7 +23,13 @@ analyzed_code =
     (coded× coded_ℕ (coded× (coded_list lit.the_row.coded)
     (coded× coded_ℕ (coded× coded_ℕ (coded_list coded_ℕ)))))
     (λ a. (a.variables, (a.clause, (a.back, (a.glue, a.seen)))))
-    (λ p. record { variables = p.0; clause = p.1.0; back = p.1.1.0; glue = p.1.1.1.0; seen = p.1.1.1.1 })
+    (λ p. record {
+      variables = p.0;
+      clause = p.1.0;
+      back = p.1.1.0;
+      glue = p.1.1.1.0;
+      seen = p.1.1.1.1;
+    })
     (λ _. refl)
 
 -- there is room for each variable

@@ -36,13 +36,14 @@ abbrev pub LearnsFrom : Slots → Levels → ClauseId → Clause → ℕ → ℕ
 LearnsFrom slots t id clause back glue =
     IsLearned (live slots) (levels_seen slots t) (clause_of slots id.0) clause back glue
 
--- the variables on which the analysis of the false clause d resolves, and those of the clause that it
--- gives
+-- the variables on which the analysis of the false clause d resolves, and those of the clause that
+-- it gives
 abbrev pub variables_seen : List Level → Clause → Clause → List ℕ
 variables_seen levels d clause = resolved_from levels d ++ map (λ l. l.var) clause
 
 -- the numbers are exactly these, each once, and up to n
-pub record ListsSeen (levels : List Level) (d clause : Clause) (n : ℕ) (seen : List ℕ) : Type 0 where
+pub record ListsSeen (levels : List Level) (d clause : Clause) (n : ℕ)
+    (seen : List ℕ) : Type 0 where
   pub exactly : (x : ℕ) → has_number seen x ≡ has_number (variables_seen levels d clause) x
   pub differ : AllDiffer seen
   pub range : (x : ℕ) → has_number seen x ≡ true → (1 ≤ x) × (x ≤ n)

@@ -16,8 +16,8 @@ use sdcl_trail::Trail;
 use std::alloc::Global;
 use std::marker::Model;
 
-/// What a conflict teaches. The clause is false under the trail, its first literal alone on the
-/// last level.
+/// What a conflict teaches. The clause is false under the trail, its first literal alone at the last
+/// level; the order of the others is left open, and so is that of `seen`.
 #[derive(Drop)]
 pub struct Learned<'a> {
     pub clause: &'a [Lit],
@@ -29,7 +29,8 @@ pub struct Learned<'a> {
     pub seen: &'a [u32],
 }
 
-/// The working marks of an analysis.
+/// The working marks of an analysis, which one analyzer keeps for all of them, since a conflict
+/// mostly touches few of the variables.
 #[derive(Drop)]
 pub struct Analyzer {
     variables: u32,
@@ -37,9 +38,11 @@ pub struct Analyzer {
     marked: NumberSet,
     // its literals below the last level
     lower: Vec<Lit>,
+    // the variables that the search for covered literals entered, and those that it found covered
     entered: NumberSet,
     covered: NumberSet,
     stack: Vec<Frame>,
+    // the levels of the clause's literals
     levels: NumberSet,
     // the last result
     clause: Vec<Lit>,
@@ -92,10 +95,9 @@ impl Analyzer {
     }
 
     /// The clause of the first unique implication point of a clause that is false under the trail,
-    /// without the literals
-    /// that the others imply. It takes time in what it visits: the last level back to that point,
-    /// and each reason that
-    /// it resolves on or searches.
+    /// without the literals that the others imply. It takes time in what it visits: the last level
+    /// back to that point, and the reasons that it resolves on or searches. It is lent until the
+    /// next call.
     pub fn learn<'a, C: Clauses>(
         &'a mut self,
         trail: &Trail,

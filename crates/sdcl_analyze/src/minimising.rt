@@ -2,9 +2,10 @@
 //!
 //! A literal of the trail is covered where it stands on level 0, or where the other literals of its
 //! reason are all in the clause or are the complements of covered ones (Sörensson and Biere,
-//! Minimizing Learned Clauses, SAT 2009). The search goes along reasons with a stack of its own, and
-//! each variable is entered once in an analysis: one that was entered and is not on the stack is
-//! covered exactly where it is marked so.
+//! Minimizing Learned Clauses, SAT 2009). The search goes along reasons with a stack of its own, so
+//! that no chain of reasons is too long for it. Each variable is entered once in an analysis: one
+//! that was entered and is not on the stack is covered exactly where it is marked so. The time is
+//! that of the reasons of the variables that are entered.
 ghost use Rattle.std.specs.Prelude.{◌≡◌, ◌≤◌, ◌<◌, ◌+◌, ◌-◌, ◌*◌, ℕ, true, false, [], ◌∷◌, ◌++◌};
 ghost use Rattle.std.specs.Prelude.{length, vec_capacity};
 ghost use Rattle.sdcl_base.specs.Literal.{Literal, has};

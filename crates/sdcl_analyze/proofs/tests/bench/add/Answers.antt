@@ -1,9 +1,9 @@
-use Rattle.std.proofs.Common.{◌≡◌, ◌≤◌, ◌∷◌, ◌++◌, [], true, length, Some, ℕ, ap, subst, sym, rules, arith}
+use Rattle.std.proofs.Common.{◌≡◌, ◌≤◌, ◌∷◌, ◌++◌, [], true, length, Some, ap, subst, sym, rules, arith}
 use Rattle.sdcl_base.specs.Marks.{firsts}
 use Rattle.sdcl_store.specs.Slots.{Slots, is_alive, clause_of}
-use Rattle.sdcl_prop.specs.Fitting.{Fits, Covers, Attaches, is_attached}
+use Rattle.sdcl_prop.specs.Fitting.{Fits}
 use Rattle.sdcl_prop.proofs.Seeing.{in_live}
-use Rattle.sdcl_prop.proofs.Changing.{fits_joined, free_joined, covers_joined}
+use Rattle.sdcl_prop.proofs.Changing.{fits_joined, free_joined}
 use Rattle.sdcl_analyze.proofs.tests.bench.add.Goals as goal
 
 pub attach-requires-clause-free : goal.attach-requires-clause-free

@@ -1,5 +1,5 @@
-use Rattle.std.proofs.Common.{◌≡◌, ◌∙◌, ◌≤◌, ◌<◌, ◌+◌, false, None, length, sym, ap, subst, arith}
-use Rattle.sdcl_base.specs.Literal.{Literal, has, names, negated}
+use Rattle.std.proofs.Common.{◌≡◌, ◌∙◌, ◌<◌, ◌+◌, false, None, length, sym, ap, subst, arith}
+use Rattle.sdcl_base.specs.Literal.{Literal, has, names}
 use Rattle.sdcl_trail.specs.Levels.{Levels, pushed, opened}
 use Rattle.sdcl_prop.specs.Seeing.{FitsOver, CompleteOver}
 use Rattle.sdcl_analyze.proofs.Driving.{decided_fits, where_none, unnamed}

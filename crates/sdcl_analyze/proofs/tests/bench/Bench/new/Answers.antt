@@ -1,4 +1,4 @@
-use Rattle.std.proofs.Common.{◌≡◌, sym, subst}
+use Rattle.std.proofs.Common.{sym, subst}
 use Rattle.sdcl_prop.specs.Seeing.{FitsOver}
 use Rattle.sdcl_analyze.proofs.Driving.{bare_fits}
 use Rattle.sdcl_analyze.proofs.tests.bench.Bench.new.Goals as goal
