@@ -96,6 +96,6 @@ KnowsBefore slots t seen entered covered x = (k : Literal) → In (lower_lits (l
     → Knows slots t seen entered covered k
 
 -- the answer is whether the variable's literal is covered
-abbrev pub Answers : Slots → Levels → List ℕ → ℕ → Bool → Type 0
-Answers slots t seen x b = (k : Literal) → In (lower_lits (levels_of t)) k → k.var ≡ x
+abbrev pub TellsCovered : Slots → Levels → List ℕ → ℕ → Bool → Type 0
+TellsCovered slots t seen x b = (k : Literal) → In (lower_lits (levels_of t)) k → k.var ≡ x
     → b ≡ has (covered_of slots t seen) k

@@ -16,8 +16,8 @@ use sdcl_trail::Trail;
 use std::alloc::Global;
 use std::marker::Model;
 
-/// What a conflict teaches. The clause is false under the trail, its first literal alone at the last
-/// level; the order of the others is left open, and so is that of `seen`.
+/// What a conflict teaches. The clause is false under the trail, its first literal alone at the
+/// last level; the order of the others is left open, and so is that of `seen`.
 #[derive(Drop)]
 pub struct Learned<'a> {
     pub clause: &'a [Lit],

@@ -14,7 +14,7 @@ ghost use Rattle.sdcl_analyze.specs.Numbers.{has_number, with_number};
 ghost use Rattle.sdcl_analyze.specs.Marking.{GathersOn, lower_lits};
 ghost use Rattle.sdcl_analyze.specs.Covering.{uncovered_of};
 ghost use Rattle.sdcl_analyze.specs.Searching.{standing_of, KnowsBefore, FrameFits, Searched};
-ghost use Rattle.sdcl_analyze.specs.Searching.{LookFinds, FitsAbove, Answers};
+ghost use Rattle.sdcl_analyze.specs.Searching.{LookFinds, FitsAbove, TellsCovered};
 ghost use Rattle.sdcl_trail.specs.Levels.{levels_of};
 
 use crate::number_set::NumberSet;
@@ -99,7 +99,7 @@ pub(crate) fn is_covered<C: Clauses>(
     requires room { (trail.now.variables < seen.now.room) × (trail.now.variables < entered.old.room)
         × (trail.now.variables < covered.old.room) }
     requires memory { entered.old.room ≤ vec_capacity stack.old }
-    ensures value { Answers (C.clauses clauses.now) trail.now seen.now.members var result }
+    ensures value { TellsCovered (C.clauses clauses.now) trail.now seen.now.members var result }
     ensures searched { Searched (C.clauses clauses.now) trail.now
         seen.now.members entered.new.members covered.new.members stack.new.items }
     ensures empty { stack.new.items ≡ [] }
