@@ -22,10 +22,10 @@ use Rattle.sdcl_prop.specs.Seeing.{entry_seen, entries_seen, levels_seen, FitsOv
 use Rattle.sdcl_prop.proofs.Seeing.{seen_lits, seen_trail}
 use Rattle.sdcl_analyze.specs.Numbers.{has_number, adjoined_all, AllDiffer}
 use Rattle.sdcl_analyze.specs.Marking.{Gathers, lits, last_of, last_lits, lower_of, lower_lits, level_on, back_on, glue_on}
-use Rattle.sdcl_analyze.specs.Walking.{point_clause, IsPoint}
+use Rattle.sdcl_analyze.specs.Walking.{point_clause, point_steps, resolved_on, resolved_from, IsPoint}
 use Rattle.sdcl_analyze.specs.Covering.{root_of, middle_of, lower_kept, covered_of, uncovered_of}
-use Rattle.sdcl_analyze.specs.Learning.{LearnsFrom, ListsSeen}
-use Rattle.sdcl_analyze.proofs.Numbers.{all_from, all_own}
+use Rattle.sdcl_analyze.specs.Learning.{LearnsFrom, ListsFrom}
+use Rattle.sdcl_analyze.proofs.Numbers.{all_from, all_has, has_other}
 use Rattle.sdcl_analyze.proofs.Levels.{apart_two}
 use Rattle.sdcl_analyze.proofs.Ready.{Ready, ready, last_seen, lower_seen, entries_split}
 use Rattle.sdcl_analyze.proofs.Results.{results, some_decision, alive_like}
@@ -226,16 +226,21 @@ learned_is slots t id marked p lower clause back glue s n f y w q e b v =
     (v ∙ ap (λ (k : Literal → ℕ). length (distinct (map k clause)))
     (fun_same (λ x. level_on (levels_of t) (negated x)) (λ x. level_of levels (negated x)) (λ x. sym (level_same slots (levels_of t) (negated x)))))
 
-pub seen_is : (slots : Slots) (t : Levels) (d : Clause) (marked : List ℕ) (p : Literal) (lower clause : Clause) (resolved noted : List ℕ) → IsSound t → 1 < length (levels_of t) → FitsOver slots t
-    → IsPoint slots t d marked p → Gathers (lower_lits (levels_of t)) marked lower → clause ≡ p ∷ uncovered_of slots t marked lower → noted ≡ adjoined_all resolved clause → AllDiffer noted
-    → ((x : ℕ) → has_number resolved x ≡ true → (1 ≤ x) × (x ≤ t.variables)) → ListsSeen t.variables clause noted
-seen_is slots t d marked p lower clause resolved noted s n f w q e m a h =
+steps_seen : (slots : Slots) (t : Levels) (d : Clause) → point_steps slots t d ≡ resolved_from (levels_seen slots t) d
+steps_seen slots t d = ap (λ (z : Level). resolved_on z (reverse z) d) (sym (last_seen slots (levels_of t)))
+
+pub seen_is : (slots : Slots) (t : Levels) (id : ClauseId) (marked : List ℕ) (p : Literal) (lower clause : Clause) (steps noted : List ℕ) → IsSound t → 1 < length (levels_of t) → FitsOver slots t
+    → IsPoint slots t (clause_of slots id.0) marked p → Gathers (lower_lits (levels_of t)) marked lower → clause ≡ p ∷ uncovered_of slots t marked lower → noted ≡ adjoined_all steps clause → AllDiffer noted
+    → ((x : ℕ) → has_number steps x ≡ has_number (point_steps slots t (clause_of slots id.0)) x) → ((x : ℕ) → has_number steps x ≡ true → (1 ≤ x) × (x ≤ t.variables)) → ListsFrom slots t id clause noted
+seen_is slots t id marked p lower clause steps noted s n f w q e m a h k =
+    let d = clause_of slots id.0 in
     let r : Ready slots t = ready slots t s n f in
     record {
+      exactly = λ x. ap (λ (z : List ℕ). has_number z x) m ∙ all_has steps clause x ∙ has_other steps (point_steps slots t d) (map (λ l. l.var) clause) h x
+          ∙ ap (λ (z : List ℕ). has_number (z ++ map (λ l. l.var) clause) x) (steps_seen slots t d);
       differ = a;
-      range = λ x i. elim (all_from resolved clause x (sym (ap (λ (z : List ℕ). has_number z x) m) ∙ i)) [
-        | inl j ↦ h x j
+      range = λ x i. elim (all_from steps clause x (sym (ap (λ (z : List ℕ). has_number z x) m) ∙ i)) [
+        | inl j ↦ k x j
         | inr j ↦ subst (λ (z : ℕ). (1 ≤ z) × (z ≤ t.variables)) (sym j.2) (clause_range slots t d marked p lower s r w q j.0 (subst (λ (c : Clause). In c j.0) e j.1))
       ];
-      kept = λ l i. ap (λ (z : List ℕ). has_number z l.var) m ∙ all_own resolved clause l i;
     }

@@ -10,3 +10,4 @@ pub mod Results
 pub mod Learning
 pub mod Heights
 pub mod Joining
+pub mod Driving

@@ -1,5 +1,5 @@
 -- Sets of numbers: none, one more, and the variables of a clause.
-use Rattle.std.proofs.Common.{◌≡◌, ◌≤◌, ◌<◌, ◌+◌, ◌==◌, ℕ, Bool, true, false, ◌||◌, cond, List, [], ◌∷◌, ◌++◌, length, get_or, vec_capacity, replicate, ◌⊎◌, inl, inr, refl, sym, ap, subst, ◌∙◌, arith}
+use Rattle.std.proofs.Common.{◌≡◌, ◌≤◌, ◌<◌, ◌+◌, ◌==◌, ℕ, Bool, true, false, ◌||◌, cond, List, [], ◌∷◌, ◌++◌, append-nil, length, map, get_or, vec_capacity, replicate, ◌⊎◌, inl, inr, refl, sym, ap, subst, ◌∙◌, arith}
 use Rattle.std.specs.declared.vec.Vec.{Vec}
 use Rattle.std.specs.declared.alloc.Global.{Global}
 use Rattle.std.specs.Cmp.{nat_eq_equiv}
@@ -84,9 +84,38 @@ joined_from xs x y h =
       ]
     ]
 
+or_absorbs : (a b : Bool) → (b ≡ true → a ≡ true) → a ≡ (a || b)
+or_absorbs true b h = refl
+or_absorbs false true h = h refl
+or_absorbs false false h = refl
+
+pub joined_has : (xs : List ℕ) (x y : ℕ) → has_number (adjoined xs x) y ≡ (has_number xs y || (y == x))
+joined_has xs x y =
+    elim (cases_Bool (has_number xs x)) [
+      | inl e ↦ ap (λ zs. has_number zs y) (joined_old xs x e) ∙ or_absorbs (has_number xs y) (y == x) (λ h. ap (has_number xs) (eqb-true y x h) ∙ e)
+      | inr e ↦ ap (λ zs. has_number zs y) (joined_new xs x e) ∙ has_more xs x y
+    ]
+
 pub joined_end : (xs : List ℕ) (c : Clause) (l : Literal) → adjoined_all xs (c ++ l ∷ []) ≡ adjoined (adjoined_all xs c) l.var
 joined_end xs [] l = refl
 joined_end xs (m ∷ c) l = joined_end (adjoined xs m.var) c l
+
+or_moved : (a b c : Bool) → ((a || b) || c) ≡ (a || (b || c))
+or_moved true b c = refl
+or_moved false b c = refl
+
+pub all_has : (xs : List ℕ) (c : Clause) (y : ℕ) → has_number (adjoined_all xs c) y ≡ has_number (xs ++ map (λ l. l.var) c) y
+all_has xs [] y = ap (λ (zs : List ℕ). has_number zs y) (sym (append-nil xs))
+all_has xs (l ∷ c) y =
+    all_has (adjoined xs l.var) c y
+    ∙ list_any-append (λ z. y == z) (adjoined xs l.var) (map (λ l. l.var) c)
+    ∙ ap (λ b. b || has_number (map (λ l. l.var) c) y) (joined_has xs l.var y)
+    ∙ or_moved (has_number xs y) (y == l.var) (has_number (map (λ l. l.var) c) y)
+    ∙ sym (list_any-append (λ z. y == z) xs (l.var ∷ map (λ l. l.var) c))
+
+pub has_other : (xs ys zs : List ℕ) → ((y : ℕ) → has_number xs y ≡ has_number ys y) → (y : ℕ) → has_number (xs ++ zs) y ≡ has_number (ys ++ zs) y
+has_other xs ys zs h y =
+    list_any-append (λ z. y == z) xs zs ∙ ap (λ b. b || has_number zs y) (h y) ∙ sym (list_any-append (λ z. y == z) ys zs)
 
 pub all_holds : (xs : List ℕ) (c : Clause) (y : ℕ) → has_number xs y ≡ true → has_number (adjoined_all xs c) y ≡ true
 all_holds xs [] y h = h

@@ -1,5 +1,5 @@
 -- The walk back along the last level, up to the first unique implication point.
-use Rattle.std.proofs.Common.{◌≡◌, ◌≤◌, ◌<◌, ◌+◌, ◌-◌, ℕ, zero, suc, Bool, true, false, not, ◌&&◌, cond, List, [], ◌∷◌, ◌++◌, length, reverse, get_or, Some, ◌⊎◌, inl, inr, refl, sym, ap, subst, ◌∙◌, append_assoc, append-nil, arith}
+use Rattle.std.proofs.Common.{◌≡◌, ◌≤◌, ◌<◌, ◌+◌, ◌-◌, ℕ, zero, suc, ◌==◌, Bool, true, false, not, ◌&&◌, ◌||◌, cond, List, [], ◌∷◌, ◌++◌, length, reverse, get_or, Some, ◌⊎◌, inl, inr, refl, sym, ap, subst, ◌∙◌, append_assoc, append-nil, arith}
 use Rattle.std.proofs.lemmas.Bool.{cases_Bool, true≢false, false≢true, false_from_ne_true, not_from_false, and_from}
 use Rattle.std.proofs.lemmas.List.{map-append, length-append, reverse-append}
 use Rattle.sdcl_base.specs.Literal.{Literal, Clause, negated, same, has, without, union, no_variable_twice}
@@ -18,10 +18,10 @@ use Rattle.sdcl_store.proofs.Analysing.{Reason, in_reverse}
 use Rattle.sdcl_trail.specs.Levels.{Levels, entries, lits_of, reason_in, Entry, levels_of}
 use Rattle.sdcl_prop.specs.Seeing.{reason_seen, entry_seen, entries_seen}
 use Rattle.sdcl_prop.proofs.Seeing.{seen_lits}
-use Rattle.sdcl_analyze.specs.Numbers.{has_number, adjoined_all}
+use Rattle.sdcl_analyze.specs.Numbers.{has_number, adjoined, adjoined_all}
 use Rattle.sdcl_analyze.specs.Marking.{IsMarkable, BecomeSeen, seen_among, lits, last_of, last_lits, lower_of, lower_lits}
-use Rattle.sdcl_analyze.specs.Walking.{point_clause, IsPoint}
-use Rattle.sdcl_analyze.proofs.Numbers.{all_holds, all_own, all_from}
+use Rattle.sdcl_analyze.specs.Walking.{resolved_on, point_clause, point_steps, IsPoint}
+use Rattle.sdcl_analyze.proofs.Numbers.{joined_has, all_holds, all_own, all_from}
 use Rattle.sdcl_analyze.proofs.Levels.{same_var, apart_two, apart_left, apart_right}
 use Rattle.sdcl_trail.proofs.Cutting.{levels_lits}
 use Rattle.sdcl_analyze.proofs.Ready.{Ready, Why, why_of, alive_in, alive_from, opens_at, reason_at, entries_split, lower_lits_of}
@@ -31,20 +31,22 @@ abbrev pub Stands : Levels → List Entry → Literal → Type 0
 Stands t hs x = In (lower_lits (levels_of t)) x ⊎ In (lits hs) x
 
 -- what is left to visit is `heads`, c is the clause so far, and so many of its literals are still open
-pub record Walked (slots : Slots) (t : Levels) (d : Clause) (at : ℕ) (seen : List ℕ) (opened : ℕ) : Type 0 where
+pub record Walked (slots : Slots) (t : Levels) (d : Clause) (at : ℕ) (seen done : List ℕ) (opened : ℕ) : Type 0 where
   pub heads : List Entry
   pub tails : List Entry
   pub split : last_of (levels_of t) ≡ heads ++ tails
   pub place : at ≡ length (lower_lits (levels_of t)) + length heads
   pub c : Clause
   pub here : first_point (entries_seen slots (last_of (levels_of t))) (reverse (entries_seen slots heads)) c ≡ point_clause slots t d
+  pub past : (x : ℕ) → has_number (point_steps slots t d) x
+      ≡ (has_number done x || has_number (resolved_on (entries_seen slots (last_of (levels_of t))) (reverse (entries_seen slots heads)) c) x)
   pub sound : (l : Literal) → In c l → Stands t heads (negated l) × (has_number seen l.var ≡ true)
   pub all : (l : Literal) → Stands t heads (negated l) → has_number seen l.var ≡ true → In c l
   pub count : opened ≡ length (seen_among (lits heads) seen)
   pub some : 1 ≤ opened
 
 -- the same before the last of the heads is visited
-pub record Ahead (slots : Slots) (t : Levels) (d : Clause) (at : ℕ) (seen : List ℕ) (opened : ℕ) (l : Literal) : Type 0 where
+pub record Ahead (slots : Slots) (t : Levels) (d : Clause) (at : ℕ) (seen done : List ℕ) (opened : ℕ) (l : Literal) : Type 0 where
   pub hs : List Entry
   pub e : Entry
   pub tails : List Entry
@@ -53,6 +55,8 @@ pub record Ahead (slots : Slots) (t : Levels) (d : Clause) (at : ℕ) (seen : Li
   pub lit : l ≡ e.lit
   pub c : Clause
   pub here : first_point (entries_seen slots (last_of (levels_of t))) (entry_seen slots e ∷ reverse (entries_seen slots hs)) c ≡ point_clause slots t d
+  pub past : (x : ℕ) → has_number (point_steps slots t d) x
+      ≡ (has_number done x || has_number (resolved_on (entries_seen slots (last_of (levels_of t))) (entry_seen slots e ∷ reverse (entries_seen slots hs)) c) x)
   pub sound : (k : Literal) → In c k → (Stands t hs (negated k) ⊎ (negated k ≡ l)) × (has_number seen k.var ≡ true)
   pub all : (k : Literal) → Stands t hs (negated k) → has_number seen k.var ≡ true → In c k
   pub own : has_number seen l.var ≡ true → In c (negated l)
@@ -124,9 +128,9 @@ some_seen (y ∷ xs) seen h =
     ]
 
 -- where some entry is left, the last of them
-pub ahead : (slots : Slots) (t : Levels) (d : Clause) (at : ℕ) (seen : List ℕ) (opened : ℕ) (l : Literal) → Ready slots t → Walked slots t d (at + 1) seen opened
-    → l ≡ get_or (lits_of t) at l → Ahead slots t d at seen opened l
-ahead slots t d at seen opened l r w q =
+pub ahead : (slots : Slots) (t : Levels) (d : Clause) (at : ℕ) (seen done : List ℕ) (opened : ℕ) (l : Literal) → Ready slots t → Walked slots t d (at + 1) seen done opened
+    → l ≡ get_or (lits_of t) at l → Ahead slots t d at seen done opened l
+ahead slots t d at seen done opened l r w q =
     let n : 0 < length w.heads = some_heads w.heads seen (omega (arith, w.some, w.count)) in
     let p : (hs : List Entry) × (e : Entry) × (w.heads ≡ hs ++ e ∷ []) = snoc w.heads n in
     let s : last_of (levels_of t) ≡ p.0 ++ (p.1 ∷ w.tails) = w.split ∙ ap (λ (z : List Entry). z ++ w.tails) p.2 ∙ append_assoc p.0 (p.1 ∷ []) w.tails in
@@ -152,6 +156,8 @@ ahead slots t d at seen opened l r w q =
       here = ap (λ es. first_point (entries_seen slots (last_of (levels_of t))) es w.c)
           (sym (ap (λ es. reverse (entries_seen slots es)) p.2 ∙ ap reverse (map-append (entry_seen slots) p.0 (p.1 ∷ [])) ∙ reverse-append (entries_seen slots p.0) (entry_seen slots p.1 ∷ [])))
           ∙ w.here;
+      past = λ x. w.past x ∙ ap (λ es. has_number done x || has_number (resolved_on (entries_seen slots (last_of (levels_of t))) es w.c) x)
+          (ap (λ es. reverse (entries_seen slots es)) p.2 ∙ ap reverse (map-append (entry_seen slots) p.0 (p.1 ∷ [])) ∙ reverse-append (entries_seen slots p.0) (entry_seen slots p.1 ∷ []));
       sound = λ k i. (
         elim (w.sound k i).0 [
           | inl j ↦ inl (inl j)
@@ -173,8 +179,8 @@ ahead slots t d at seen opened l r w q =
     }
 
 -- the heads are not all visited at the trail's start
-pub not_at_start : (slots : Slots) (t : Levels) (d : Clause) (seen : List ℕ) (opened : ℕ) → Walked slots t d 0 seen opened → ⊥
-not_at_start slots t d seen opened w = let n : 0 < length w.heads = some_heads w.heads seen (omega (arith, w.some, w.count)) in omega (arith, n, w.place)
+pub not_at_start : (slots : Slots) (t : Levels) (d : Clause) (seen done : List ℕ) (opened : ℕ) → Walked slots t d 0 seen done opened → ⊥
+not_at_start slots t d seen done opened w = let n : 0 < length w.heads = some_heads w.heads seen (omega (arith, w.some, w.count)) in omega (arith, n, w.place)
 
 -- ---- a literal that is not marked
 
@@ -182,9 +188,13 @@ skip_by : (z es : List fit.Reasoned) (c r : Clause) (b h : Bool) → b ≡ false
 skip_by z es c r true h e = absurd (true≢false e)
 skip_by z es c r false h e = refl
 
-pub walk_skip : (slots : Slots) (t : Levels) (d : Clause) (at : ℕ) (seen : List ℕ) (opened : ℕ) (l : Literal) → Ahead slots t d at seen opened l → has_number seen l.var ≡ false
-    → Walked slots t d at seen opened
-walk_skip slots t d at seen opened l a f =
+skip_steps : (z es : List fit.Reasoned) (v : ℕ) (c r : Clause) (b h : Bool) → b ≡ false → cond (b && h) (v ∷ resolved_on z es r) (resolved_on z es c) ≡ resolved_on z es c
+skip_steps z es v c r true h e = absurd (true≢false e)
+skip_steps z es v c r false h e = refl
+
+pub walk_skip : (slots : Slots) (t : Levels) (d : Clause) (at : ℕ) (seen done : List ℕ) (opened : ℕ) (l : Literal) → Ahead slots t d at seen done opened l → has_number seen l.var ≡ false
+    → Walked slots t d at seen done opened
+walk_skip slots t d at seen done opened l a f =
     let no : (k : Literal) → In a.c k → negated k ≡ l → ⊥ = λ k i e. true≢false (sym (a.sound k i).1 ∙ ap (λ (z : Literal). has_number seen z.var) e ∙ f) in
     let h : has a.c (negated a.e.lit) ≡ false = absent_from a.c (negated a.e.lit) (λ i. no (negated a.e.lit) i (negated_negated a.e.lit ∙ sym a.lit)) in
     record {
@@ -195,6 +205,9 @@ walk_skip slots t d at seen opened l a f =
       c = a.c;
       here = sym (skip_by (entries_seen slots (last_of (levels_of t))) (reverse (entries_seen slots a.hs)) a.c (resolved a.e.lit (reason_seen slots a.e.reason) a.c) (has a.c (negated a.e.lit))
           (holds_another (entries_seen slots (last_of (levels_of t))) a.c a.e.lit) h) ∙ a.here;
+      past = λ x. a.past x ∙ ap (λ (ys : List ℕ). has_number done x || has_number ys x)
+          (skip_steps (entries_seen slots (last_of (levels_of t))) (reverse (entries_seen slots a.hs)) a.e.lit.var a.c (resolved a.e.lit (reason_seen slots a.e.reason) a.c) (has a.c (negated a.e.lit))
+          (holds_another (entries_seen slots (last_of (levels_of t))) a.c a.e.lit) h);
       sound = λ k i. (elim (a.sound k i).0 [ inl j ↦ j | inr e ↦ absurd (no k i e) ], (a.sound k i).1);
       all = a.all;
       count = a.count ∙ ap (λ b. length (seen_among (lits a.hs) seen) + cond b 1 0) f ∙ add_none (length (seen_among (lits a.hs) seen));
@@ -213,9 +226,29 @@ stop_by z es c r true true e = absurd (true≢false e)
 stop_by z es c r true false e = refl
 stop_by z es c r false h e = refl
 
-pub walk_stop : (slots : Slots) (t : Levels) (d : Clause) (at : ℕ) (seen : List ℕ) (opened : ℕ) (l : Literal) → Ready slots t → Ahead slots t d at seen opened l
-    → has_number seen l.var ≡ true → opened ≡ 1 → IsPoint slots t d seen (negated l)
-walk_stop slots t d at seen opened l r a f o =
+-- and nothing is resolved on
+steps_end : (z es : List fit.Reasoned) (c : Clause) → ((e : fit.Reasoned) → In es e → has c (negated e.literal) ≡ false) → resolved_on z es c ≡ []
+steps_end z [] c n = refl
+steps_end z (e ∷ es) c n =
+    skip_steps z es e.literal.var c (resolved e.literal e.reason c) (has c (negated e.literal)) (holds_another z c e.literal) (n e (inl refl)) ∙ steps_end z es c (λ x i. n x (inr i))
+
+stop_steps : (z es : List fit.Reasoned) (v : ℕ) (c r : Clause) (b h : Bool) → h ≡ false → cond (b && h) (v ∷ resolved_on z es r) (resolved_on z es c) ≡ resolved_on z es c
+stop_steps z es v c r true true e = absurd (true≢false e)
+stop_steps z es v c r true false e = refl
+stop_steps z es v c r false h e = refl
+
+or_none : (b : Bool) → (b || false) ≡ b
+or_none true = refl
+or_none false = refl
+
+-- the point, and what was resolved on before it
+pub record Stops (slots : Slots) (t : Levels) (d : Clause) (seen done : List ℕ) (p : Literal) : Type 0 where
+  pub point : IsPoint slots t d seen p
+  pub steps : (x : ℕ) → has_number done x ≡ has_number (point_steps slots t d) x
+
+pub walk_stop : (slots : Slots) (t : Levels) (d : Clause) (at : ℕ) (seen done : List ℕ) (opened : ℕ) (l : Literal) → Ready slots t → Ahead slots t d at seen done opened l
+    → has_number seen l.var ≡ true → opened ≡ 1 → Stops slots t d seen done (negated l)
+walk_stop slots t d at seen done opened l r a f o =
     let cnt : opened ≡ length (seen_among (lits a.hs) seen) + 1 = a.count ∙ ap (λ b. length (seen_among (lits a.hs) seen) + cond b 1 0) f in
     let nil : length (seen_among (lits a.hs) seen) ≡ 0 = omega (arith, cnt, o) in
     let none : (x : Literal) → In (lits a.hs) x → has_number seen x.var ≡ true → ⊥ = none_seen (lits a.hs) seen nil in
@@ -233,22 +266,29 @@ walk_stop slots t d at seen opened l r a f o =
       | inl (inr j) ↦ none (negated (negated p.0)) j (a.sound (negated p.0) i).1
       | inr e ↦ true≢false (sym k.0 ∙ ap not (ap (λ (y : Literal). same y a.e.lit) (sym (negated_negated p.0) ∙ e ∙ a.lit) ∙ same_refl a.e.lit))
     ]) in
-    let stays : first_point z (reverse (entries_seen slots a.hs)) a.c ≡ a.c = point_stays z (reverse (entries_seen slots a.hs)) a.c (λ x i.
+    let gone : (x : fit.Reasoned) → In (reverse (entries_seen slots a.hs)) x → has a.c (negated x.literal) ≡ false = λ x i.
     absent_from a.c (negated x.literal) (λ j.
     let m : In (lits a.hs) x.literal = subst (λ (y : Clause). In y x.literal) (seen_lits slots a.hs) (in_map (λ (y : fit.Reasoned). y.literal) (entries_seen slots a.hs) x (in_reverse (entries_seen slots a.hs) x i)) in
-    none x.literal m (a.sound (negated x.literal) j).1)) in
+    none x.literal m (a.sound (negated x.literal) j).1) in
+    let stays : first_point z (reverse (entries_seen slots a.hs)) a.c ≡ a.c = point_stays z (reverse (entries_seen slots a.hs)) a.c gone in
+    let end : resolved_on z (entry_seen slots a.e ∷ reverse (entries_seen slots a.hs)) a.c ≡ [] =
+    stop_steps z (reverse (entries_seen slots a.hs)) a.e.lit.var a.c (resolved a.e.lit (reason_seen slots a.e.reason) a.c) (has a.c (negated a.e.lit)) (holds_another z a.c a.e.lit) other
+    ∙ steps_end z (reverse (entries_seen slots a.hs)) a.c gone in
     let is : a.c ≡ point_clause slots t d =
     sym (stop_by z (reverse (entries_seen slots a.hs)) a.c (resolved a.e.lit (reason_seen slots a.e.reason) a.c) (has a.c (negated a.e.lit)) (holds_another z a.c a.e.lit) other ∙ stays) ∙ a.here in
     record {
-      at_last = in_last (negated (negated l)) (inr (negated_negated l));
-      own = subst (λ (y : Clause). In y (negated l)) is (a.own f);
-      sound = λ k i. let j : In a.c k = subst (λ (y : Clause). In y k) (sym is) i in
-          elim (a.sound k j).0 [
-            | inl (inl m) ↦ inr (m, (a.sound k j).1)
-            | inl (inr m) ↦ absurd (none (negated k) m (a.sound k j).1)
-            | inr e ↦ inl (sym (negated_negated k) ∙ ap negated e)
-          ];
-      all = λ k i h. subst (λ (y : Clause). In y k) is (a.all k (inl i) h);
+      point = record {
+        at_last = in_last (negated (negated l)) (inr (negated_negated l));
+        own = subst (λ (y : Clause). In y (negated l)) is (a.own f);
+        sound = λ k i. let j : In a.c k = subst (λ (y : Clause). In y k) (sym is) i in
+            elim (a.sound k j).0 [
+              | inl (inl m) ↦ inr (m, (a.sound k j).1)
+              | inl (inr m) ↦ absurd (none (negated k) m (a.sound k j).1)
+              | inr e ↦ inl (sym (negated_negated k) ∙ ap negated e)
+            ];
+        all = λ k i h. subst (λ (y : Clause). In y k) is (a.all k (inl i) h);
+      };
+      steps = λ x. sym (a.past x ∙ ap (λ (ys : List ℕ). has_number done x || has_number ys x) end ∙ or_none (has_number done x));
     }
 
 one_at_least : (n opened : ℕ) → opened ≡ n + 1 → (opened ≡ 1 → ⊥) → 1 ≤ n
@@ -275,16 +315,16 @@ some_id e = cc
 
 -- ---- one that is not the last is resolved on
 
-pub record Resolves (slots : Slots) (t : Levels) (d : Clause) (at : ℕ) (seen : List ℕ) (opened : ℕ) (l : Literal) (a : Ahead slots t d at seen opened l) : Type 0 where
+pub record Resolves (slots : Slots) (t : Levels) (d : Clause) (at : ℕ) (seen done : List ℕ) (opened : ℕ) (l : Literal) (a : Ahead slots t d at seen done opened l) : Type 0 where
   pub why : Why slots (lower_lits (levels_of t) ++ lits a.hs) l a.e.reason
   pub reason : reason_in (entries (levels_of t)) l.var ≡ Some why.id
   pub alive : is_alive slots why.id.0 ≡ true
   pub markable : (k : Literal) → In (clause_of slots why.id.0) k → IsMarkable (lits_of t) seen k
   pub more : 1 ≤ length (seen_among (lits a.hs) seen)
 
-pub walk_reason : (slots : Slots) (t : Levels) (d : Clause) (at : ℕ) (seen : List ℕ) (opened : ℕ) (l : Literal) → Ready slots t → (a : Ahead slots t d at seen opened l)
-    → has_number seen l.var ≡ true → (opened ≡ 1 → ⊥) → Resolves slots t d at seen opened l a
-walk_reason slots t d at seen opened l r a f o =
+pub walk_reason : (slots : Slots) (t : Levels) (d : Clause) (at : ℕ) (seen done : List ℕ) (opened : ℕ) (l : Literal) → Ready slots t → (a : Ahead slots t d at seen done opened l)
+    → has_number seen l.var ≡ true → (opened ≡ 1 → ⊥) → Resolves slots t d at seen done opened l a
+walk_reason slots t d at seen done opened l r a f o =
     let cnt : opened ≡ length (seen_among (lits a.hs) seen) + 1 = a.count ∙ ap (λ b. length (seen_among (lits a.hs) seen) + cond b 1 0) f in
     let some : 1 ≤ length (seen_among (lits a.hs) seen) = one_at_least (length (seen_among (lits a.hs) seen)) opened cnt o in
     let n : 0 < length (entries_seen slots a.hs) = omega (arith, some_heads a.hs seen some, seen_length slots a.hs) in
@@ -320,15 +360,24 @@ next_by z es c r true true p q = refl
 next_by z es c r true false p q = absurd (false≢true q)
 next_by z es c r false h p q = absurd (false≢true p)
 
+next_steps : (z es : List fit.Reasoned) (v : ℕ) (c r : Clause) (b h : Bool) → b ≡ true → h ≡ true → cond (b && h) (v ∷ resolved_on z es r) (resolved_on z es c) ≡ v ∷ resolved_on z es r
+next_steps z es v c r true true p q = refl
+next_steps z es v c r true false p q = absurd (false≢true q)
+next_steps z es v c r false h p q = absurd (false≢true p)
+
+or_pulled : (a b c : Bool) → (a || (b || c)) ≡ ((a || b) || c)
+or_pulled true b c = refl
+or_pulled false b c = refl
+
 not_in : (c : Clause) (m l : Literal) → In (without c m) l → In c l × (l ≡ m → ⊥)
 not_in c m l i =
     let p : In c l × (not (same m l) ≡ true) = in_filter_from (λ x. not (same m x)) c l i in
     (p.0, λ e. true≢false (sym p.1 ∙ ap not (ap (same m) e ∙ same_refl m)))
 
-pub walk_next : (slots : Slots) (t : Levels) (d : Clause) (at : ℕ) (seen more : List ℕ) (opened n : ℕ) (l : Literal) (id : ClauseId) → Ready slots t → (a : Ahead slots t d at seen opened l)
-    → has_number seen l.var ≡ true → Resolves slots t d at seen opened l a → reason_in (entries (levels_of t)) l.var ≡ Some id
-    → more ≡ adjoined_all seen (clause_of slots id.0) → BecomeSeen (last_lits (levels_of t)) seen more (clause_of slots id.0) n → Walked slots t d at more (opened - 1 + n)
-walk_next slots t d at seen more opened n l id r a f w q m o =
+pub walk_next : (slots : Slots) (t : Levels) (d : Clause) (at : ℕ) (seen more done : List ℕ) (opened n : ℕ) (l : Literal) (id : ClauseId) → Ready slots t → (a : Ahead slots t d at seen done opened l)
+    → has_number seen l.var ≡ true → Resolves slots t d at seen done opened l a → reason_in (entries (levels_of t)) l.var ≡ Some id
+    → more ≡ adjoined_all seen (clause_of slots id.0) → BecomeSeen (last_lits (levels_of t)) seen more (clause_of slots id.0) n → Walked slots t d at more (adjoined done l.var) (opened - 1 + n)
+walk_next slots t d at seen more done opened n l id r a f w q m o =
     let same_id : w.why.id ≡ id = some_id (sym w.reason ∙ q) in
     let c = clause_of slots id.0 in
     let why : Reason (live slots) (lower_lits (levels_of t) ++ lits a.hs) l c = subst (λ (z : ClauseId). Reason (live slots) (lower_lits (levels_of t) ++ lits a.hs) l (clause_of slots z.0)) same_id w.why.why in
@@ -369,6 +418,13 @@ walk_next slots t d at seen more opened n l id r a f w q m o =
       c = u;
       here = sym (next_by z (reverse (entries_seen slots a.hs)) a.c (resolved a.e.lit (reason_seen slots a.e.reason) a.c) (has a.c (negated a.e.lit)) (holds_another z a.c a.e.lit) mine other
           ∙ ap (first_point z (reverse (entries_seen slots a.hs))) is) ∙ a.here;
+      past = λ x. a.past x
+          ∙ ap (λ (ys : List ℕ). has_number done x || has_number ys x)
+          (next_steps z (reverse (entries_seen slots a.hs)) a.e.lit.var a.c (resolved a.e.lit (reason_seen slots a.e.reason) a.c) (has a.c (negated a.e.lit)) (holds_another z a.c a.e.lit) mine other
+          ∙ ap (λ (y : Clause). a.e.lit.var ∷ resolved_on z (reverse (entries_seen slots a.hs)) y) is)
+          ∙ or_pulled (has_number done x) (x == a.e.lit.var) (has_number (resolved_on z (reverse (entries_seen slots a.hs)) u) x)
+          ∙ ap (λ (b : Bool). b || has_number (resolved_on z (reverse (entries_seen slots a.hs)) u) x)
+          (ap (λ (y : Literal). has_number done x || (x == y.var)) (sym a.lit) ∙ sym (joined_has done l.var x));
       sound = λ k i. elim (in_union_cases (without a.c (negated l)) (without c l) k i) [
         | inl j ↦
             let p : In a.c k × (k ≡ negated l → ⊥) = not_in a.c (negated l) k j in (
@@ -394,7 +450,7 @@ walk_next slots t d at seen more opened n l id r a f w q m o =
 -- ---- the start
 
 pub walk_start : (slots : Slots) (t : Levels) (id : ℕ) (more : List ℕ) (n : ℕ) → Ready slots t → is_alive slots id ≡ true → falsified (lits_of t) (clause_of slots id) ≡ true
-    → more ≡ adjoined_all [] (clause_of slots id) → BecomeSeen (last_lits (levels_of t)) [] more (clause_of slots id) n → Walked slots t (clause_of slots id) (length (lits_of t)) more n
+    → more ≡ adjoined_all [] (clause_of slots id) → BecomeSeen (last_lits (levels_of t)) [] more (clause_of slots id) n → Walked slots t (clause_of slots id) (length (lits_of t)) more [] n
 walk_start slots t id more n r v f m o =
     let d = clause_of slots id in
     let low = lower_lits (levels_of t) in
@@ -416,6 +472,7 @@ walk_start slots t id more n r v f m o =
       place = ap length r.split ∙ length-append low last ∙ ap (λ (z : ℕ). length low + z) (lits_length (last_of (levels_of t)));
       c = d;
       here = refl;
+      past = λ x. refl;
       sound = λ l i. (stands_by low last (negated l) (on l i), owns l i);
       all = λ l i h. elim (all_from [] d l.var (sym (ap (λ (z : List ℕ). has_number z l.var) m) ∙ h)) [
         | inl b ↦ absurd (false≢true b)
@@ -429,11 +486,11 @@ walk_start slots t id more n r v f m o =
 
 -- ---- as the loop has it
 
-pub ahead_at : (slots : Slots) (t : Levels) (d : Clause) (at : ℕ) (seen : List ℕ) (opened : ℕ) (all : Clause) (l : Literal) → Ready slots t → Walked slots t d at seen opened → 0 < at
-    → all ≡ lits_of t → l ≡ get_or all (at - 1) l → Ahead slots t d (at - 1) seen opened l
-ahead_at slots t d at seen opened all l r w h e q =
+pub ahead_at : (slots : Slots) (t : Levels) (d : Clause) (at : ℕ) (seen done : List ℕ) (opened : ℕ) (all : Clause) (l : Literal) → Ready slots t → Walked slots t d at seen done opened → 0 < at
+    → all ≡ lits_of t → l ≡ get_or all (at - 1) l → Ahead slots t d (at - 1) seen done opened l
+ahead_at slots t d at seen done opened all l r w h e q =
     let one : at ≡ at - 1 + 1 = omega (arith, h) in
-    ahead slots t d (at - 1) seen opened l r (subst (λ (n : ℕ). Walked slots t d n seen opened) one w) (q ∙ ap (λ (z : Clause). get_or z (at - 1) l) e)
+    ahead slots t d (at - 1) seen done opened l r (subst (λ (n : ℕ). Walked slots t d n seen done opened) one w) (q ∙ ap (λ (z : Clause). get_or z (at - 1) l) e)
 
 one_short : (b : Bool) (x : Literal) (xs ys : Clause) → length xs ≤ length ys → length (cond b (x ∷ xs) xs) ≤ length (x ∷ ys)
 one_short true x xs ys h = omega (arith, h)
@@ -443,5 +500,5 @@ seen_short : (xs : Clause) (seen : List ℕ) → length (seen_among xs seen) ≤
 seen_short [] seen = omega arith
 seen_short (x ∷ xs) seen = one_short (has_number seen x.var) x (seen_among xs seen) xs (seen_short xs seen)
 
-pub walked_below : (slots : Slots) (t : Levels) (d : Clause) (at : ℕ) (seen : List ℕ) (opened : ℕ) → Walked slots t d at seen opened → opened ≤ at
-walked_below slots t d at seen opened w = omega (arith, w.count, w.place, seen_short (lits w.heads) seen, lits_length w.heads)
+pub walked_below : (slots : Slots) (t : Levels) (d : Clause) (at : ℕ) (seen done : List ℕ) (opened : ℕ) → Walked slots t d at seen done opened → opened ≤ at
+walked_below slots t d at seen done opened w = omega (arith, w.count, w.place, seen_short (lits w.heads) seen, lits_length w.heads)

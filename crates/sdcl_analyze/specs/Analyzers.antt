@@ -19,12 +19,24 @@ pub record Analyzed : Type 0 where
 
 abbrev pub analyzed_code : Coded Analyzed
 analyzed_code =
-    code_by (ℕ × (List Literal × (ℕ × (ℕ × List ℕ)))) (coded× coded_ℕ (coded× (coded_list lit.the_row.coded) (coded× coded_ℕ (coded× coded_ℕ (coded_list coded_ℕ)))))
+    code_by (ℕ × (List Literal × (ℕ × (ℕ × List ℕ))))
+    (coded× coded_ℕ (coded× (coded_list lit.the_row.coded)
+    (coded× coded_ℕ (coded× coded_ℕ (coded_list coded_ℕ)))))
     (λ a. (a.variables, (a.clause, (a.back, (a.glue, a.seen)))))
-    (λ p. record { variables = p.0; clause = p.1.0; back = p.1.1.0; glue = p.1.1.1.0; seen = p.1.1.1.1 }) (λ _. refl)
+    (λ p. record {
+      variables = p.0;
+      clause = p.1.0;
+      back = p.1.1.0;
+      glue = p.1.1.1.0;
+      seen = p.1.1.1.1;
+    })
+    (λ _. refl)
 
 -- there is room for each variable
-pub record IsRoomy (n : ℕ) (marked entered covered seen levels : Numbers) (lower clause : Vec Literal Global) (stack : Vec Frame Global) : Type 0 where
-  pub rooms : (marked.room ≡ n + 1) × (entered.room ≡ n + 1) × (covered.room ≡ n + 1) × (seen.room ≡ n + 1) × (levels.room ≡ n + 2)
-  pub memory : (n + 1 ≤ vec_capacity lower) × (n + 2 ≤ vec_capacity clause) × (n + 1 ≤ vec_capacity stack)
+pub record IsRoomy (n : ℕ) (marked entered covered seen levels : Numbers)
+    (lower clause : Vec Literal Global) (stack : Vec Frame Global) : Type 0 where
+  pub rooms : (marked.room ≡ n + 1) × (entered.room ≡ n + 1) × (covered.room ≡ n + 1)
+      × (seen.room ≡ n + 1) × (levels.room ≡ n + 2)
+  pub memory : (n + 1 ≤ vec_capacity lower) × (n + 2 ≤ vec_capacity clause)
+      × (n + 1 ≤ vec_capacity stack)
   pub small : n ≤ MAX_VARIABLE

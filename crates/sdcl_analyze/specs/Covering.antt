@@ -24,11 +24,13 @@ lower_kept t seen = complements (seen_among (lower_lits (levels_of t)) seen)
 
 -- the literals that they cover
 abbrev pub covered_of : Slots → Levels → List ℕ → Clause
-covered_of slots t seen = covered (lower_kept t seen) (lits (root_of (levels_of t))) (entries_seen slots (middle_of (levels_of t)))
+covered_of slots t seen = covered (lower_kept t seen) (lits (root_of (levels_of t)))
+    (entries_seen slots (middle_of (levels_of t)))
 
 -- a reason's literal is seen, or its complement is covered
 abbrev pub IsFine : Slots → Levels → List ℕ → Literal → Type 0
-IsFine slots t seen m = (has_number seen m.var ≡ true) ⊎ (has (covered_of slots t seen) (negated m) ≡ true)
+IsFine slots t seen m = (has_number seen m.var ≡ true)
+    ⊎ (has (covered_of slots t seen) (negated m) ≡ true)
 
 -- the place of the first literal of a variable
 abbrev pub height_in : Clause → ℕ → ℕ

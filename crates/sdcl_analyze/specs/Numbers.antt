@@ -13,11 +13,16 @@ pub record Numbers : Type 0 where
   pub members : List ℕ
 
 abbrev pub numbers_code : Coded Numbers
-numbers_code = code_by (ℕ × List ℕ) (coded× coded_ℕ (coded_list coded_ℕ)) (λ s. (s.room, s.members)) (λ p. record { room = p.0; members = p.1 }) (λ _. refl)
+numbers_code = code_by (ℕ × List ℕ) (coded× coded_ℕ (coded_list coded_ℕ)) (λ s. (s.room, s.members))
+    (λ p. record { room = p.0; members = p.1 }) (λ _. refl)
 
 -- the empty set
 abbrev pub none_of : ℕ → Numbers
 none_of room = record { room = room; members = [] }
+
+-- both sets and the literals are empty
+abbrev pub AreEmpty : Numbers → Numbers → Clause → Type 0
+AreEmpty s r lits = (s ≡ none_of s.room) × (r ≡ none_of r.room) × (lits ≡ [])
 
 -- whether x is one of the numbers
 abbrev pub has_number : List ℕ → ℕ → Bool

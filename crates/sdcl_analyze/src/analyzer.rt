@@ -3,7 +3,7 @@ ghost use Rattle.std.specs.Prelude.{◌≡◌, ◌≤◌, length, vec_capacity, 
 ghost use Rattle.std.specs.Borrow.{sem};
 ghost use Rattle.sdcl_base.specs.declared.lit.TheConstants.{MAX_VARIABLE};
 ghost use Rattle.sdcl_prop.specs.Seeing.{FitsOver, IsFalsified};
-ghost use Rattle.sdcl_analyze.specs.Learning.{LearnsFrom, ListsSeen};
+ghost use Rattle.sdcl_analyze.specs.Learning.{LearnsFrom, ListsFrom};
 ghost use Rattle.sdcl_analyze.specs.Lending.{KeepsVariables};
 
 use crate::measures::{back_level, glue, note};
@@ -16,7 +16,8 @@ use sdcl_trail::Trail;
 use std::alloc::Global;
 use std::marker::Model;
 
-/// What a conflict teaches. The clause is false under the trail, its first literal alone on the last level.
+/// What a conflict teaches. The clause is false under the trail, its first literal alone at the
+/// last level; the order of the others is left open, and so is that of `seen`.
 #[derive(Drop)]
 pub struct Learned<'a> {
     pub clause: &'a [Lit],
@@ -28,7 +29,8 @@ pub struct Learned<'a> {
     pub seen: &'a [u32],
 }
 
-/// The working marks of an analysis.
+/// The working marks of an analysis, which one analyzer keeps for all of them, since a conflict
+/// mostly touches few of the variables.
 #[derive(Drop)]
 pub struct Analyzer {
     variables: u32,
@@ -36,9 +38,11 @@ pub struct Analyzer {
     marked: NumberSet,
     // its literals below the last level
     lower: Vec<Lit>,
+    // the variables that the search for covered literals entered, and those that it found covered
     entered: NumberSet,
     covered: NumberSet,
     stack: Vec<Frame>,
+    // the levels of the clause's literals
     levels: NumberSet,
     // the last result
     clause: Vec<Lit>,
@@ -55,9 +59,17 @@ impl Model for Analyzer {
 
     ghost coded = { analyzed_code };
 
-    ghost view = { λ a. record { variables = a.variables; clause = a.clause.items; back = a.back_level; glue = a.glue; seen = a.seen.members } };
+    ghost view = { λ a.
+        record {
+          variables = a.variables;
+          clause = a.clause.items;
+          back = a.back_level;
+          glue = a.glue;
+          seen = a.seen.members;
+        } };
 
-    ghost invariant = { λ a. IsRoomy a.variables a.marked a.entered a.covered a.seen a.levels a.lower a.clause a.stack };
+    ghost invariant = { λ a. IsRoomy a.variables a.marked a.entered a.covered a.seen a.levels
+        a.lower a.clause a.stack };
 }
 
 impl Analyzer {
@@ -82,9 +94,10 @@ impl Analyzer {
         })
     }
 
-    /// The clause of the first unique implication point of a clause that is false under the trail, without the literals
-    /// that the others imply. It takes time in what it visits: the last level back to that point, and each reason that
-    /// it resolves on or searches.
+    /// The clause of the first unique implication point of a clause that is false under the trail,
+    /// without the literals that the others imply. It takes time in what it visits: the last level
+    /// back to that point, and the reasons that it resolves on or searches. It is lent until the
+    /// next call.
     pub fn learn<'a, C: Clauses>(
         &'a mut self,
         trail: &Trail,
@@ -98,7 +111,8 @@ impl Analyzer {
         ensures* writes_back { sem 𝓛 (KeepsVariables self.entry) }
         ensures learned { LearnsFrom (C.clauses clauses.now) trail.now conflict
             result.clause.now result.back_level result.glue }
-        ensures seen { ListsSeen trail.now.variables result.clause.now result.seen.now }
+        ensures seen { ListsFrom (C.clauses clauses.now) trail.now conflict
+            result.clause.now result.seen.now }
     {
         self.analyse(trail, clauses, conflict);
         self.learned()
@@ -113,7 +127,8 @@ impl Analyzer {
         ensures variables { self.new.variables ≡ self.old.variables }
         ensures learned { LearnsFrom (C.clauses clauses.now) trail.now conflict
             self.new.clause self.new.back self.new.glue }
-        ensures seen { ListsSeen trail.now.variables self.new.clause self.new.seen }
+        ensures seen { ListsFrom (C.clauses clauses.now) trail.now conflict
+            self.new.clause self.new.seen }
     {
         let _level = trail.level();
         self.marked.clear();

@@ -1,27 +1,29 @@
 //! Marks of the variables of a clause under a trail.
-ghost use Rattle.std.specs.Prelude.{◌≡◌, ◌≤◌, ◌<◌, true, [], ◌∷◌, length, vec_capacity, if◌then◌else◌};
+ghost use Rattle.std.specs.Prelude.{◌≡◌, ◌≤◌, ◌<◌, true, [], ◌∷◌, length, vec_capacity};
+ghost use Rattle.std.specs.Prelude.{if◌then◌else◌};
 ghost use Rattle.sdcl_base.specs.Literal.{Literal};
 ghost use Rattle.sdcl_base.specs.Sets.{In};
 ghost use Rattle.sdcl_store.specs.Slots.{is_alive, clause_of};
-ghost use Rattle.sdcl_trail.specs.Levels.{lits_of, levels_of};
 ghost use Rattle.sdcl_analyze.specs.Numbers.{with_number, with_variables};
-ghost use Rattle.sdcl_analyze.specs.Marking.{IsMarkable, Gathers, BecomeSeen, lower_lits, last_lits};
+ghost use Rattle.sdcl_analyze.specs.Marking.{IsMarkable, GathersOn, BecomeSeenOn};
 
 use crate::number_set::NumberSet;
 use sdcl_base::{ClauseId, Lit};
 use sdcl_store::Clauses;
 use sdcl_trail::Trail;
 
-// Marks the variable of a literal that is false under the trail, and puts the literal into `lower` where it is false
-// below the last level. Answers whether the variable is a new one of the last level.
+// Marks the variable of a literal that is false under the trail, and puts the literal into `lower`
+// where it is false below the last level. Answers whether the variable is a new one of the last
+// level.
 fn mark(trail: &Trail, l: Lit, seen: &mut NumberSet, lower: &mut Vec<Lit>) -> bool
-    requires on { IsMarkable (lits_of trail.now) seen.old.members l }
+    requires on { IsMarkable trail.now.lits seen.old.members l }
     requires room { trail.now.variables < seen.old.room }
     requires memory { seen.old.room ≤ vec_capacity lower.old }
-    requires gathers { Gathers (lower_lits (levels_of trail.now)) seen.old.members lower.old.items }
+    requires gathers { GathersOn trail.now seen.old.members lower.old.items }
     ensures seen { seen.new ≡ with_number seen.old l.var }
-    ensures gathers { Gathers (lower_lits (levels_of trail.now)) seen.new.members lower.new.items }
-    ensures opens { BecomeSeen (last_lits (levels_of trail.now)) seen.old.members seen.new.members (l ∷ []) (if result then 1 else 0) }
+    ensures gathers { GathersOn trail.now seen.new.members lower.new.items }
+    ensures opens { BecomeSeenOn trail.now seen.old.members seen.new.members (l ∷ [])
+        (if result then 1 else 0) }
     ensures memory { seen.new.room ≤ vec_capacity lower.new }
 {
     let last = trail.level();
@@ -49,13 +51,15 @@ pub(crate) fn mark_all<C: Clauses>(
     lower: &mut Vec<Lit>,
 ) -> usize
     requires alive { is_alive (C.clauses clauses.now) id.0 ≡ true }
-    requires on { (l : Literal) → In (clause_of (C.clauses clauses.now) id.0) l → IsMarkable (lits_of trail.now) seen.old.members l }
+    requires on { (l : Literal) → In (clause_of (C.clauses clauses.now) id.0) l
+        → IsMarkable trail.now.lits seen.old.members l }
     requires room { trail.now.variables < seen.old.room }
     requires memory { seen.old.room ≤ vec_capacity lower.old }
-    requires gathers { Gathers (lower_lits (levels_of trail.now)) seen.old.members lower.old.items }
+    requires gathers { GathersOn trail.now seen.old.members lower.old.items }
     ensures seen { seen.new ≡ with_variables seen.old (clause_of (C.clauses clauses.now) id.0) }
-    ensures gathers { Gathers (lower_lits (levels_of trail.now)) seen.new.members lower.new.items }
-    ensures opens { BecomeSeen (last_lits (levels_of trail.now)) seen.old.members seen.new.members (clause_of (C.clauses clauses.now) id.0) result }
+    ensures gathers { GathersOn trail.now seen.new.members lower.new.items }
+    ensures opens { BecomeSeenOn trail.now seen.old.members seen.new.members
+        (clause_of (C.clauses clauses.now) id.0) result }
     ensures memory { seen.new.room ≤ vec_capacity lower.new }
 {
     let mut opened = 0;

@@ -1,17 +1,20 @@
 //! Which literals of a clause are implied by the others.
 //!
-//! A literal of the trail is covered where it stands on level 0, or where the other literals of its reason are all in
-//! the clause or are the complements of covered ones (Sörensson and Biere, Minimizing Learned Clauses, SAT 2009). The
-//! search goes along reasons with a stack of its own, and each variable is entered once in an analysis: one that was
-//! entered and is not on the stack is covered exactly where it is marked so.
-ghost use Rattle.std.specs.Prelude.{◌≡◌, ◌≤◌, ◌<◌, ◌+◌, ◌-◌, ◌*◌, ℕ, true, false, [], ◌∷◌, ◌++◌, length, vec_capacity};
+//! A literal of the trail is covered where it stands on level 0, or where the other literals of its
+//! reason are all in the clause or are the complements of covered ones (Sörensson and Biere,
+//! Minimizing Learned Clauses, SAT 2009). The search goes along reasons with a stack of its own, so
+//! that no chain of reasons is too long for it. Each variable is entered once in an analysis: one
+//! that was entered and is not on the stack is covered exactly where it is marked so. The time is
+//! that of the reasons of the variables that are entered.
+ghost use Rattle.std.specs.Prelude.{◌≡◌, ◌≤◌, ◌<◌, ◌+◌, ◌-◌, ◌*◌, ℕ, true, false, [], ◌∷◌, ◌++◌};
+ghost use Rattle.std.specs.Prelude.{length, vec_capacity};
 ghost use Rattle.sdcl_base.specs.Literal.{Literal, has};
 ghost use Rattle.sdcl_base.specs.Sets.{In};
-ghost use Rattle.sdcl_prop.specs.Seeing.{FitsOver};
 ghost use Rattle.sdcl_analyze.specs.Numbers.{has_number, with_number};
-ghost use Rattle.sdcl_analyze.specs.Marking.{Gathers, lower_lits};
-ghost use Rattle.sdcl_analyze.specs.Covering.{covered_of, uncovered_of, height_in};
-ghost use Rattle.sdcl_analyze.specs.Searching.{standing_of, Knows, FrameFits, Searched, LookFinds};
+ghost use Rattle.sdcl_analyze.specs.Marking.{GathersOn, lower_lits};
+ghost use Rattle.sdcl_analyze.specs.Covering.{uncovered_of};
+ghost use Rattle.sdcl_analyze.specs.Searching.{standing_of, KnowsBefore, FrameFits, Searched};
+ghost use Rattle.sdcl_analyze.specs.Searching.{LookFinds, FitsAbove, TellsCovered};
 ghost use Rattle.sdcl_trail.specs.Levels.{levels_of};
 
 use crate::number_set::NumberSet;
@@ -54,13 +57,16 @@ pub(crate) fn minimise<C: Clauses>(
     stack: &mut Vec<Frame>,
     clause: &mut Vec<Lit>,
 )
-    requires fits { (1 < length (levels_of trail.now)) × FitsOver (C.clauses clauses.now) trail.now }
-    requires gathers { Gathers (lower_lits (levels_of trail.now)) seen.now.members lower.now }
-    requires fresh { (entered.old.members ≡ []) × (covered.old.members ≡ []) × (stack.old.items ≡ []) }
-    requires room { (trail.now.variables < seen.now.room) × (trail.now.variables < entered.old.room) × (trail.now.variables < covered.old.room) }
+    requires fits { FitsAbove (C.clauses clauses.now) trail.now }
+    requires gathers { GathersOn trail.now seen.now.members lower.now }
+    requires fresh { (entered.old.members ≡ []) × (covered.old.members ≡ [])
+        × (stack.old.items ≡ []) }
+    requires room { (trail.now.variables < seen.now.room) × (trail.now.variables < entered.old.room)
+        × (trail.now.variables < covered.old.room) }
     requires memory { entered.old.room ≤ vec_capacity stack.old }
     requires space { length clause.old.items + length lower.now ≤ vec_capacity clause.old }
-    ensures clause { clause.new.items ≡ clause.old.items ++ uncovered_of (C.clauses clauses.now) trail.now seen.now.members lower.now }
+    ensures clause { clause.new.items ≡ clause.old.items
+        ++ uncovered_of (C.clauses clauses.now) trail.now seen.now.members lower.now }
     ensures space { vec_capacity clause.old ≤ vec_capacity clause.new }
     ensures room { (entered.new.room ≡ entered.old.room) × (covered.new.room ≡ covered.old.room) }
     ensures memory { entered.new.room ≤ vec_capacity stack.new }
@@ -74,7 +80,8 @@ pub(crate) fn minimise<C: Clauses>(
     }
 }
 
-// Whether the variable's literal, of a level below the last, is covered by the clause whose variables are seen.
+// Whether the variable's literal, of a level below the last, is covered by the clause whose
+// variables are seen.
 pub(crate) fn is_covered<C: Clauses>(
     trail: &Trail,
     clauses: &C,
@@ -84,14 +91,17 @@ pub(crate) fn is_covered<C: Clauses>(
     stack: &mut Vec<Frame>,
     var: u32,
 ) -> bool
-    requires fits { (1 < length (levels_of trail.now)) × FitsOver (C.clauses clauses.now) trail.now }
+    requires fits { FitsAbove (C.clauses clauses.now) trail.now }
     requires below { (k : Literal) × In (lower_lits (levels_of trail.now)) k × (k.var ≡ var) }
-    requires searched { Searched (C.clauses clauses.now) trail.now seen.now.members entered.old.members covered.old.members stack.old.items }
+    requires searched { Searched (C.clauses clauses.now) trail.now
+        seen.now.members entered.old.members covered.old.members stack.old.items }
     requires empty { stack.old.items ≡ [] }
-    requires room { (trail.now.variables < seen.now.room) × (trail.now.variables < entered.old.room) × (trail.now.variables < covered.old.room) }
+    requires room { (trail.now.variables < seen.now.room) × (trail.now.variables < entered.old.room)
+        × (trail.now.variables < covered.old.room) }
     requires memory { entered.old.room ≤ vec_capacity stack.old }
-    ensures value { (k : Literal) → In (lower_lits (levels_of trail.now)) k → k.var ≡ var → result ≡ has (covered_of (C.clauses clauses.now) trail.now seen.now.members) k }
-    ensures searched { Searched (C.clauses clauses.now) trail.now seen.now.members entered.new.members covered.new.members stack.new.items }
+    ensures value { TellsCovered (C.clauses clauses.now) trail.now seen.now.members var result }
+    ensures searched { Searched (C.clauses clauses.now) trail.now
+        seen.now.members entered.new.members covered.new.members stack.new.items }
     ensures empty { stack.new.items ≡ [] }
     ensures room { (entered.new.room ≡ entered.old.room) × (covered.new.room ≡ covered.old.room) }
     ensures memory { entered.new.room ≤ vec_capacity stack.new }
@@ -118,15 +128,21 @@ fn go_on<C: Clauses>(
     stack: &mut Vec<Frame>,
     frame: Frame,
 )
-    requires fits { (1 < length (levels_of trail.now)) × FitsOver (C.clauses clauses.now) trail.now }
-    requires searched { Searched (C.clauses clauses.now) trail.now seen.now.members entered.old.members covered.old.members (stack.old.items ++ frame ∷ []) }
-    requires room { (trail.now.variables < seen.now.room) × (trail.now.variables < entered.old.room) × (trail.now.variables < covered.old.room) }
+    requires fits { FitsAbove (C.clauses clauses.now) trail.now }
+    requires searched { Searched (C.clauses clauses.now) trail.now
+        seen.now.members entered.old.members covered.old.members
+        (stack.old.items ++ frame ∷ []) }
+    requires room { (trail.now.variables < seen.now.room) × (trail.now.variables < entered.old.room)
+        × (trail.now.variables < covered.old.room) }
     requires memory { entered.old.room ≤ vec_capacity stack.old }
-    ensures searched { Searched (C.clauses clauses.now) trail.now seen.now.members entered.new.members covered.new.members stack.new.items }
+    ensures searched { Searched (C.clauses clauses.now) trail.now
+        seen.now.members entered.new.members covered.new.members stack.new.items }
     ensures room { (entered.new.room ≡ entered.old.room) × (covered.new.room ≡ covered.old.room) }
     ensures memory { entered.new.room ≤ vec_capacity stack.new }
-    ensures grows { (x : ℕ) → has_number entered.old.members x ≡ true → has_number entered.new.members x ≡ true }
-    ensures less { (2 * (entered.new.room - length entered.new.members) + length stack.new.items < 2 * (entered.old.room - length entered.old.members) + length stack.old.items + 1) }
+    ensures grows { (x : ℕ) → has_number entered.old.members x ≡ true
+        → has_number entered.new.members x ≡ true }
+    ensures less { (2 * (entered.new.room - length entered.new.members) + length stack.new.items
+        < 2 * (entered.old.room - length entered.old.members) + length stack.old.items + 1) }
 {
     let _level = trail.level();
     let _members = entered.members();
@@ -166,11 +182,15 @@ fn look_on<C: Clauses>(
     covered: &NumberSet,
     frame: Frame,
 ) -> Look
-    requires fits { (1 < length (levels_of trail.now)) × FitsOver (C.clauses clauses.now) trail.now }
-    requires frame { FrameFits (C.clauses clauses.now) trail.now seen.now.members entered.now.members frame }
-    requires knows { (k : Literal) → In (lower_lits (levels_of trail.now)) k → height_in (lower_lits (levels_of trail.now)) k.var < height_in (lower_lits (levels_of trail.now)) frame.var → Knows (C.clauses clauses.now) trail.now seen.now.members entered.now.members covered.now.members k }
-    requires room { (trail.now.variables < seen.now.room) × (trail.now.variables < entered.now.room) × (trail.now.variables < covered.now.room) }
-    ensures { LookFinds (C.clauses clauses.now) trail.now seen.now.members entered.now.members frame result }
+    requires fits { FitsAbove (C.clauses clauses.now) trail.now }
+    requires frame { FrameFits (C.clauses clauses.now) trail.now
+        seen.now.members entered.now.members frame }
+    requires knows { KnowsBefore (C.clauses clauses.now) trail.now
+        seen.now.members entered.now.members covered.now.members frame.var }
+    requires room { (trail.now.variables < seen.now.room) × (trail.now.variables < entered.now.room)
+        × (trail.now.variables < covered.now.room) }
+    ensures { LookFinds (C.clauses clauses.now) trail.now
+        seen.now.members entered.now.members frame result }
 {
     let _level = trail.level();
     for at in frame.at..clauses.length(frame.reason) {
@@ -204,8 +224,10 @@ fn enter(entered: &mut NumberSet, stack: &mut Vec<Frame>, var: u32, reason: Clau
     requires memory { entered.old.room ≤ vec_capacity stack.old }
     requires few { length stack.old.items ≤ length entered.old.members }
     ensures entered { entered.new ≡ with_number entered.old var }
-    ensures length { (length entered.new.members ≡ length entered.old.members + 1) × (length entered.new.members ≤ entered.old.room) }
-    ensures items { stack.new.items ≡ stack.old.items ++ record { var = var; reason = reason; at = 0 } ∷ [] }
+    ensures length { (length entered.new.members ≡ length entered.old.members + 1)
+        × (length entered.new.members ≤ entered.old.room) }
+    ensures items { stack.new.items ≡ stack.old.items
+        ++ record { var = var; reason = reason; at = 0 } ∷ [] }
     ensures memory { vec_capacity stack.old ≤ vec_capacity stack.new }
 {
     entered.insert(var);

@@ -7,8 +7,9 @@ use sdcl_base::NoMemory;
 use std::alloc::Global;
 use std::marker::Model;
 
-/// A set of numbers below a bound, in the order in which they came. It has a mark for each number and a list of those
-/// that are marked, so that each call but `new` takes constant time, and `clear` time linear in the members.
+/// A set of numbers below a bound, in the order in which they came. It has a mark for each number
+/// and a list of those that are marked, so that `contains` and `insert` take constant time, and
+/// `clear` time linear in the members.
 #[derive(Drop)]
 pub(crate) struct NumberSet {
     marks: Vec<bool>,

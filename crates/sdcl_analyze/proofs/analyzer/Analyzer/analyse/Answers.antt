@@ -99,8 +99,9 @@ returns-clause-seen g c =
     let two : c.as_slice-2.result.now ≡ c.minimise.new.clause.items = search rules in
     let m : c.note.new.seen.members ≡ adjoined_all c.first_point-point.new.resolved.members c.minimise.new.clause.items =
     ap (λ (s : Numbers). s.members) c.note.ensures ∙ ap (λ (z : Clause). adjoined_all c.first_point-point.new.resolved.members z) two in
-    seen_is slots t d marked p lower c.minimise.new.clause.items c.first_point-point.new.resolved.members c.note.new.seen.members
-    c.level-level.ensures.sound n c.requires.fits c.first_point-point.ensures.point c.first_point-point.ensures.gathers e m c.members-noted.ensures.listed.distinct c.first_point-point.ensures.range
+    seen_is slots t c.args.conflict marked p lower c.minimise.new.clause.items c.first_point-point.new.resolved.members c.note.new.seen.members
+    c.level-level.ensures.sound n c.requires.fits c.first_point-point.ensures.point c.first_point-point.ensures.gathers e m c.members-noted.ensures.listed.distinct
+    c.first_point-point.ensures.steps c.first_point-point.ensures.range
 
 pub first_point-point-requires-clause-level : goal.first_point-point-requires-clause-level
 first_point-point-requires-clause-level g c = omega (arith, c.requires.level, levels_count c.args.trail.now)
