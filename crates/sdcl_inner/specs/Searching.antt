@@ -33,7 +33,12 @@ pub record State : Type 0 where
   pub trail : Levels
 
 abbrev pub state_of : {C : Type 0} → (C → Slots) → Search C → State
-state_of clauses s = record { variables = s.variables; slots = clauses s.clauses; engine = s.engine; trail = s.trail }
+state_of clauses s = record {
+  variables = s.variables;
+  slots = clauses s.clauses;
+  engine = s.engine;
+  trail = s.trail;
+}
 
 -- the engine has each clause, and the trail fits its decisions
 pub record IsInOrder (s : State) : Type 0 where

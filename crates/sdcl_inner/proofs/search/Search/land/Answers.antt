@@ -30,7 +30,7 @@ push-requires-clause-range g c =
     c.args.forced =
     joining (g.C.Clauses.clauses s.clauses) s.trail c.args.clause.now c.args.level c.args.forced
     c.requires.ready.fits c.level-level.ensures.sound
-    (subst IsSound cut c.level-below.ensures.sound) c.requires.distinct c.requires.asserts in
+    (subst IsSound cut c.level-below.ensures.sound) c.requires.asserts in
     subst (λ (u : Levels). c.args.forced.var ≤ u.variables) (sym cut) j.ranged
 
 pub push-requires-clause-free : goal.push-requires-clause-free
@@ -41,7 +41,7 @@ push-requires-clause-free g c =
     c.args.forced =
     joining (g.C.Clauses.clauses s.clauses) s.trail c.args.clause.now c.args.level c.args.forced
     c.requires.ready.fits c.level-level.ensures.sound
-    (subst IsSound cut c.level-below.ensures.sound) c.requires.distinct c.requires.asserts in
+    (subst IsSound cut c.level-below.ensures.sound) c.requires.asserts in
     subst (λ (u : Levels). has u.lits c.args.forced ≡ false) (sym cut) j.free
 
 pub push-requires-clause-free_complement : goal.push-requires-clause-free_complement
@@ -52,7 +52,7 @@ push-requires-clause-free_complement g c =
     c.args.forced =
     joining (g.C.Clauses.clauses s.clauses) s.trail c.args.clause.now c.args.level c.args.forced
     c.requires.ready.fits c.level-level.ensures.sound
-    (subst IsSound cut c.level-below.ensures.sound) c.requires.distinct c.requires.asserts in
+    (subst IsSound cut c.level-below.ensures.sound) c.requires.asserts in
     subst (λ (u : Levels). has u.lits (negated c.args.forced) ≡ false) (sym cut) j.free_complement
 
 pub attach-requires-clause-free : goal.attach-requires-clause-free
@@ -97,7 +97,7 @@ returns-clause-jumps g c =
     let cut : c.pop_to.new.self ≡ up_to k t = c.pop_to.ensures in
     let j : Joining slots t d k p =
     joining slots t d k p c.requires.ready.fits c.level-level.ensures.sound
-    (subst IsSound cut c.level-below.ensures.sound) c.requires.distinct c.requires.asserts in
+    (subst IsSound cut c.level-below.ensures.sound) c.requires.asserts in
     let grown : g.C.Clauses.clauses c.learn.new.self ≡ slots ++ Some d ∷ [] =
     c.in_ok-id.ensures.grown in
     let trail : c.push.new.self ≡ pushed (up_to k t) p (Some id) =
