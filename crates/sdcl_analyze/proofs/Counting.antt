@@ -92,12 +92,6 @@ count_one l (k ∷ part) seen a (inr i) f =
 
 -- ---- how many became seen
 
-pub opens_none : (last : Clause) (seen : List ℕ) → BecomeSeen last seen seen [] 0
-opens_none last seen part s a h = omega arith
-
-pub opens_old : (last : Clause) (seen : List ℕ) (c : Clause) → BecomeSeen last seen seen c 0
-opens_old last seen c part s a h = omega arith
-
 pub opens_down : (last : Clause) (seen : List ℕ) (l : Literal) → ((k : Literal) → In last k → k.var ≡ l.var → ⊥) → BecomeSeen last seen (seen ++ l.var ∷ []) (l ∷ []) 0
 opens_down last seen l n part s a h = omega (arith, count_same l.var part seen (λ k i. n k (s k i)))
 

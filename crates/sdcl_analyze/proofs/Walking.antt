@@ -178,10 +178,6 @@ ahead slots t d at seen done opened l r w q =
           (elim i [ inl j ↦ in_append_left (lower_lits (levels_of t)) (lits p.0) x j | inr j ↦ in_append_right (lower_lits (levels_of t)) (lits p.0) x j ]) (inl refl) (v ∙ ap (λ (z : Literal). z.var) le);
     }
 
--- the heads are not all visited at the trail's start
-pub not_at_start : (slots : Slots) (t : Levels) (d : Clause) (seen done : List ℕ) (opened : ℕ) → Walked slots t d 0 seen done opened → ⊥
-not_at_start slots t d seen done opened w = let n : 0 < length w.heads = some_heads w.heads seen (omega (arith, w.some, w.count)) in omega (arith, n, w.place)
-
 -- ---- a literal that is not marked
 
 skip_by : (z es : List fit.Reasoned) (c r : Clause) (b h : Bool) → b ≡ false → first_point z es (cond (b && h) r c) ≡ first_point z es c
