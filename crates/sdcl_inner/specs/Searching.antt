@@ -1,6 +1,6 @@
 -- What a solver's loop keeps, and what its steps do.
 use Rattle.std.specs.Prelude.{◌≡◌, ◌≢◌, ◌==◌, ◌≤◌, ◌<◌, ℕ, ◌+◌, ◌-◌, take, Bool, true, false, List, [], ◌∷◌, ◌++◌, length, Option, Some, if◌then◌else◌}
-use Rattle.sdcl_base.specs.Literal.{Literal, Clause, names, pos_lit}
+use Rattle.sdcl_base.specs.Literal.{Literal, Clause, pos_lit}
 use Rattle.sdcl_store.specs.Stores.{AreUpTo}
 use Rattle.sdcl_base.specs.Values.{value_of}
 use Rattle.sdcl_base.specs.Propagation.{refutes}
@@ -33,7 +33,12 @@ pub record State : Type 0 where
   pub trail : Levels
 
 abbrev pub state_of : {C : Type 0} → (C → Slots) → Search C → State
-state_of clauses s = record { variables = s.variables; slots = clauses s.clauses; engine = s.engine; trail = s.trail }
+state_of clauses s = record {
+  variables = s.variables;
+  slots = clauses s.clauses;
+  engine = s.engine;
+  trail = s.trail;
+}
 
 -- the engine has each clause, and the trail fits its decisions
 pub record IsInOrder (s : State) : Type 0 where
@@ -69,9 +74,17 @@ pub record Decides (s t : State) (l : Literal) : Type 0 where
   pub more : length t.trail.starts ≡ length s.trail.starts + 1
   pub decided : decisions t.trail ≡ decisions s.trail ++ l ∷ []
 
--- what learning the clause c of the complements of the decisions does: all decisions but the last stay
+-- what learning the clause c of the complements of the decisions does: all decisions but the last
+-- stay
 pub record Joins (s t : State) (c : Clause) : Type 0 where
   pub ready : IsInOrder t
   pub variables_same : t.variables ≡ s.variables
   pub slots_are : t.slots ≡ s.slots ++ Some c ∷ []
   pub back : decisions t.trail ≡ take (length s.trail.starts - 1) (decisions s.trail)
+
+-- what going back to level k and learning the clause c does: the decisions up to there stay
+pub record Jumps (s t : State) (c : Clause) (k : ℕ) : Type 0 where
+  pub ready : IsInOrder t
+  pub variables_same : t.variables ≡ s.variables
+  pub slots_are : t.slots ≡ s.slots ++ Some c ∷ []
+  pub back : decisions t.trail ≡ take k (decisions s.trail)

@@ -1,0 +1,13 @@
+pub mod Places
+pub mod Numbers
+pub mod Levels
+pub mod Counting
+pub mod Ready
+pub mod Walking
+pub mod Covered
+pub mod Search
+pub mod Results
+pub mod Learning
+pub mod Heights
+pub mod Joining
+pub mod Driving
