@@ -1,2 +1,5 @@
 pub mod Links
+pub mod Looking
+pub mod Opening
+pub mod Passing
 pub mod Ranks

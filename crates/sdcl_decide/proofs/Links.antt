@@ -1,9 +1,9 @@
 -- Variables and their places, when two of them are exchanged.
-use Rattle.std.proofs.Common.{ℕ, ◌≡◌, ◌≢◌, ◌+◌, ◌<◌, ◌≤◌, List, sym, refl, ap, ◌∙◌, subst, ⊎_elim, arith, get_or, set, length, get_or-set_same, get_or-set_other, leb}
-use Rattle.std.proofs.lemmas.Bool.{cases_eq, le-leb}
+use Rattle.std.proofs.Common.{ℕ, ◌≡◌, ◌≢◌, ◌+◌, ◌<◌, ◌≤◌, List, sym, refl, ap, ◌∙◌, subst, ⊎_elim, arith, get_or, set, length, get_or-set_same, get_or-set_other, ltb}
+use Rattle.std.proofs.lemmas.Bool.{cases_eq, le-ltb}
 use Rattle.std.proofs.lemmas.List.{length-set}
 use Rattle.std.specs.List.{SwappedAt}
-use Rattle.sdcl_decide.specs.Heap.{AreLinked, SameUpTo}
+use Rattle.sdcl_decide.specs.Heap.{AreLinked, SameBehind}
 
 -- what an exchange of the variables at i and j leaves
 pub record Exchanges (i j : ℕ) (vars places ws qs : List ℕ) : Type 0 where
@@ -128,14 +128,14 @@ writes_exchange i j vars places ws i_low i_high j_low j_high h size swapped =
 pub same-exchange : (size i j : ℕ) (vars places qs : List ℕ) → AreLinked vars places → i < length vars → j < length vars → i ≤ size → j ≤ size
     → get_or qs (get_or vars i 0) 0 ≡ j → get_or qs (get_or vars j 0) 0 ≡ i
     → ((x : ℕ) → x ≢ get_or vars i 0 → x ≢ get_or vars j 0 → get_or qs x 0 ≡ get_or places x 0)
-    → SameUpTo size places qs
+    → SameBehind size places qs
 same-exchange size i j vars places qs h i_in j_in i_up j_up of_i of_j else_of x =
     ⊎_elim
-    (λ is_i. le-leb (get_or qs x 0) size (omega (arith, ap (λ n. get_or qs n 0) is_i, of_i))
-        ∙ sym (le-leb (get_or places x 0) size (omega (arith, ap (λ n. get_or places n 0) is_i, h.placed i i_in))))
+    (λ is_i. le-ltb size (get_or qs x 0) (omega (arith, ap (λ n. get_or qs n 0) is_i, of_i))
+        ∙ sym (le-ltb size (get_or places x 0) (omega (arith, ap (λ n. get_or places n 0) is_i, h.placed i i_in))))
     (λ not_i. ⊎_elim
-        (λ is_j. le-leb (get_or qs x 0) size (omega (arith, ap (λ n. get_or qs n 0) is_j, of_j))
-            ∙ sym (le-leb (get_or places x 0) size (omega (arith, ap (λ n. get_or places n 0) is_j, h.placed j j_in))))
-        (λ not_j. ap (λ n. leb n size) (else_of x not_i not_j))
+        (λ is_j. le-ltb size (get_or qs x 0) (omega (arith, ap (λ n. get_or qs n 0) is_j, of_j))
+            ∙ sym (le-ltb size (get_or places x 0) (omega (arith, ap (λ n. get_or places n 0) is_j, h.placed j j_in))))
+        (λ not_j. ap (λ n. ltb size n) (else_of x not_i not_j))
         (cases_eq x (get_or vars j 0)))
     (cases_eq x (get_or vars i 0))

@@ -3,7 +3,7 @@ use Rattle.std.proofs.Common.{ℕ, zero, suc, ◌≡◌, ◌≢◌, ◌+◌, ◌
 use Rattle.std.proofs.lemmas.Bool.{cases_eq, cases_lt, or_cases, and_parts, ltb-true, ltb-false, eqb-true}
 use Rattle.std.proofs.lemmas.Grind.{common_steps}
 use Rattle.std.specs.List.{SwappedAt}
-use Rattle.sdcl_decide.specs.Heap.{comes_before, rank, rank_at, IsHeapFrom, Rises, Sinks, SameUpTo, AreLinked}
+use Rattle.sdcl_decide.specs.Heap.{comes_before, rank, rank_at, IsHeapFrom, Rises, Sinks, SameBehind, AreLinked}
 
 -- ---- the order of the ranks
 
@@ -152,3 +152,32 @@ top_within (suc n) size r h i low below high =
 -- no rank is above the one at place 1
 pub top_greatest : (size : ℕ) (r : ℕ → ℕ) → IsHeapFrom 1 size r → (i : ℕ) → 1 ≤ i → i ≤ size → r i ≤ r 1
 top_greatest size r h i low high = top_within size size r h i low high high
+
+-- ---- one place more, and one less
+
+pub rises_new : (last at : ℕ) (r s : ℕ → ℕ) → AreExchanged at (last + 1) r s → last < at → IsHeapFrom 1 last r → Rises (last + 1) (last + 1) s
+rises_new last at r s e behind h = record {
+  others = λ i low high other.
+      let at_i : s i ≡ r i = e.others i (λ same. omega (arith, same, other)) other in
+      let over_i : s (i / 2) ≡ r (i / 2) = e.others (i / 2) (λ same. omega (arith, same, other)) (λ same. omega (arith, same)) in
+      omega (arith, at_i, over_i, h i low (omega (arith, other)) (omega arith));
+  over = λ i two high over. absurd (omega (arith, over));
+}
+
+pub sinks_first : (last : ℕ) (r s : ℕ → ℕ) → AreExchanged 1 last r s → IsHeapFrom 1 last r → Sinks 1 (last - 1) 1 s
+sinks_first last r s e h = record {
+  others = λ i low high from other.
+      let at_i : s i ≡ r i = e.others i (λ same. omega (arith, same)) (λ same. omega (arith, same)) in
+      let over_i : s (i / 2) ≡ r (i / 2) = e.others (i / 2) other (λ same. omega (arith, same)) in
+      omega (arith, at_i, over_i, h i low (omega arith) from);
+  over = λ i two from high over. absurd (omega arith);
+}
+
+-- ---- ranks and the order of variables
+
+pub not_before-rank : (scores : List ℕ) (x y : ℕ) → x ≤ 4194303 → y ≤ 4194303 → rank scores y ≤ rank scores x → comes_before scores y x ≡ false
+not_before-rank scores x y x_small y_small h = grind (arith, common_steps)
+
+-- variables with one rank are one
+pub same_rank : (scores : List ℕ) (x y : ℕ) → x ≤ 4194303 → y ≤ 4194303 → rank scores x ≡ rank scores y → x ≡ y
+same_rank scores x y x_small y_small h = omega arith

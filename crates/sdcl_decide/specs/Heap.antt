@@ -41,6 +41,6 @@ pub record Sinks (start size k : ℕ) (r : ℕ → ℕ) : Type 0 where
   pub others : (i : ℕ) → 2 ≤ i → i ≤ size → start ≤ i / 2 → i / 2 ≢ k → r i ≤ r (i / 2)
   pub over : (i : ℕ) → 2 ≤ k → start ≤ k / 2 → i ≤ size → i / 2 ≡ k → r i ≤ r (k / 2)
 
--- the same variables stand at the places up to `size`
-abbrev pub SameUpTo : ℕ → List ℕ → List ℕ → Type 0
-SameUpTo size old new = (x : ℕ) → nat_le (slice_index new x) size ≡ nat_le (slice_index old x) size
+-- the same variables stand behind the place `size`
+abbrev pub SameBehind : ℕ → List ℕ → List ℕ → Type 0
+SameBehind size old new = (x : ℕ) → nat_lt size (slice_index new x) ≡ nat_lt size (slice_index old x)

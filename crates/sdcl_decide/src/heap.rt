@@ -3,10 +3,11 @@
 //! The variables stand in one array, and behind the heap's last place stand those that were taken
 //! off. So all variables always stand somewhere, and each change is an exchange of two of them.
 ghost use Rattle.std.specs.Prelude.{◌≡◌, ◌≢◌, ◌+◌, ◌*◌, ◌/◌, ◌<◌, ◌≤◌, ℕ, length, slice_index};
+ghost use Rattle.std.specs.Prelude.{false, nat_lt};
 ghost use Rattle.std.specs.List.{SwappedAt};
 ghost use Rattle.sdcl_base.specs.declared.lit.TheConstants.{MAX_VARIABLE};
 ghost use Rattle.sdcl_decide.specs.Heap.{comes_before, rank_at, AreLinked, IsHeapFrom, Rises};
-ghost use Rattle.sdcl_decide.specs.Heap.{Sinks, SameUpTo};
+ghost use Rattle.sdcl_decide.specs.Heap.{Sinks, SameBehind};
 
 /// Whether a variable comes before another by the scores.
 pub(crate) fn is_before(scores: &[u64], x: u32, y: u32) -> bool
@@ -50,13 +51,38 @@ pub(crate) fn rise(
     requires order { Rises size at (rank_at scores.now vars.old) }
     ensures linked { AreLinked vars.new places.new }
     ensures order { IsHeapFrom 1 size (rank_at scores.now vars.new) }
-    ensures same { SameUpTo size places.old places.new }
+    ensures same { SameBehind size places.old places.new }
 {
     let mut at = at;
     while at > 1 && is_before(scores, vars[at], vars[at / 2]) {
         exchange(vars, places, at, at / 2);
         at /= 2;
     }
+}
+
+/// Brings a variable from behind the heap into it, on one place more.
+pub(crate) fn admit(
+    vars: &mut [u32],
+    places: &mut [usize],
+    scores: &[u64],
+    last: usize,
+    var: u32,
+)
+    requires linked { AreLinked vars.old places.old }
+    requires scores { length scores.now ≡ length vars.old }
+    requires small { length vars.old ≤ MAX_VARIABLE + 1 }
+    requires var { var < length vars.old }
+    requires behind { last < slice_index places.old var }
+    requires order { IsHeapFrom 1 last (rank_at scores.now vars.old) }
+    ensures linked { AreLinked vars.new places.new }
+    ensures order { IsHeapFrom 1 (last + 1) (rank_at scores.now vars.new) }
+    ensures var { nat_lt (last + 1) (slice_index places.new var) ≡ false }
+    ensures others { (x : ℕ) → x ≢ var → nat_lt (last + 1) (slice_index places.new x)
+        ≡ nat_lt last (slice_index places.old x) }
+{
+    let at = places[var as usize];
+    exchange(vars, places, at, last + 1);
+    rise(vars, places, scores, last + 1, last + 1);
 }
 
 /// The place below that one whose variable comes first.
@@ -93,7 +119,7 @@ pub(crate) fn sink(
     requires order { Sinks start size start (rank_at scores.now vars.old) }
     ensures linked { AreLinked vars.new places.new }
     ensures order { IsHeapFrom start size (rank_at scores.now vars.new) }
-    ensures same { SameUpTo size places.old places.new }
+    ensures same { SameBehind size places.old places.new }
 {
     let mut at = start;
     while at <= size / 2 {
@@ -114,7 +140,7 @@ pub(crate) fn arrange(vars: &mut [u32], places: &mut [usize], scores: &[u64], si
     requires size { size < length vars.old }
     ensures linked { AreLinked vars.new places.new }
     ensures order { IsHeapFrom 1 size (rank_at scores.now vars.new) }
-    ensures same { SameUpTo size places.old places.new }
+    ensures same { SameBehind size places.old places.new }
 {
     let mut start = size / 2;
     while start > 0 {

@@ -1,4 +1,9 @@
 //! Which literal a solver decides: by three rules, one order of the variables.
 #![tactic(auto)]
 
+mod bumping;
+pub mod decider;
 mod heap;
+mod queue;
+
+pub use decider::{DecideKind, Decider};

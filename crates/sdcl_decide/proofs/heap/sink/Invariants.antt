@@ -1,5 +1,5 @@
 use Rattle.std.proofs.Common.{◌-◌, ◌≤◌}
-use Rattle.sdcl_decide.specs.Heap.{rank_at, AreLinked, Sinks, SameUpTo}
+use Rattle.sdcl_decide.specs.Heap.{rank_at, AreLinked, Sinks, SameBehind}
 use Rattle.sdcl_decide.proofs.heap.sink.Given as goal
 
 abbrev pub invariant-loop-at : goal.invariant-loop-at
@@ -7,7 +7,7 @@ invariant-loop-at l = record {
   linked : AreLinked l.vars l.places;
   low : 1 ≤ l.at;
   order : Sinks l.start l.size l.at (rank_at l.scores l.vars);
-  same : SameUpTo l.size l.fn.places l.places;
+  same : SameBehind l.size l.fn.places l.places;
 }
 
 abbrev pub decreases-loop-at : goal.decreases-loop-at

@@ -1,0 +1,9 @@
+use Rattle.std.proofs.Common.{ℕ, ◌≡◌, ◌<◌, ◌≤◌, false, true}
+use Rattle.std.specs.Prelude.{MatchOption}
+use Rattle.sdcl_decide.specs.Heap.{comes_before}
+use Rattle.sdcl_decide.specs.Queue.{IsOpen, is_given}
+use Rattle.sdcl_decide.proofs.Looking.{IsBestBelow}
+use Rattle.sdcl_decide.proofs.queue.look.Given as goal
+
+abbrev pub invariant-loop-x : goal.invariant-loop-x
+invariant-loop-x l = IsBestBelow l.x l.trail.lits l.scores l.best

@@ -1,0 +1,80 @@
+//! What a bump does to the scores.
+ghost use Rattle.std.specs.Prelude.{◌≡◌, ◌≢◌, ◌+◌, ◌*◌, ◌/◌, ◌^◌, ◌<◌, ◌≤◌, ◌==◌, ◌||◌, nat_lt, max, length, All, if◌then◌else◌};
+ghost use Rattle.std.specs.List.{IsDistinct};
+ghost use Rattle.sdcl_decide.specs.Queue.{divided};
+ghost use Rattle.sdcl_decide.specs.Deciding.{next_bump, fronted, raised, with_scores, is_high};
+ghost use Rattle.sdcl_decide.specs.Deciding.{AreBehind, AreUpTo};
+
+use crate::queue::Queue;
+
+/// The number at which those of bumps stand still. No run has so many bumps: each comes with a
+/// clause that is learned.
+const LAST_BUMP: u64 = 2_199_023_255_552;
+
+/// A score or an increment above this is too great.
+const LIMIT: u64 = 1_152_921_504_606_846_976;
+
+/// Brings variables to the front, and answers the number of this bump.
+pub(crate) fn bring_to_front(queue: &mut Queue, last: u64, vars: &[u32]) -> u64
+    requires range { All (λ x. (1 ≤ x) × (x ≤ queue.old.variables)) vars.now }
+    requires last { last ≤ 2 ^ 41 }
+    requires behind { AreBehind last queue.old.scores }
+    ensures number { result ≡ next_bump last }
+    ensures scores { queue.new ≡ with_scores queue.old (fronted (next_bump last) vars.now queue.old.scores) }
+    ensures behind { AreBehind result queue.new.scores }
+    ensures width { length queue.new.scores ≡ length queue.old.scores }
+{
+    let number = if last < LAST_BUMP { last + 1 } else { last };
+    for x in vars {
+        queue.raise(*x, number * 4_194_304 + *x as u64);
+    }
+    number
+}
+
+/// Adds an increment to the scores of variables, and answers the next one.
+pub(crate) fn add_to_scores(queue: &mut Queue, step: u64, vars: &[u32]) -> u64
+    requires range { All (λ x. (1 ≤ x) × (x ≤ queue.old.variables)) vars.now }
+    requires distinct { IsDistinct (λ x y. x == y) vars.now }
+    requires width { length queue.old.scores ≡ queue.old.variables + 1 }
+    requires step { step ≤ 2 ^ 60 }
+    requires low { AreUpTo (2 ^ 60) queue.old.scores }
+    ensures scores { let scores = raised step vars.now queue.old.scores in
+        let high = is_high scores || nat_lt (2 ^ 60) (step + step / 16) in
+        queue.new ≡ with_scores queue.old (if high then divided scores else scores) }
+    ensures step { let scores = raised step vars.now queue.old.scores in
+        let high = is_high scores || nat_lt (2 ^ 60) (step + step / 16) in
+        result ≡ (if high then max ((step + step / 16) / 2 ^ 40) 1 else step + step / 16) }
+    ensures width { length queue.new.scores ≡ length queue.old.scores }
+    ensures few { result ≤ 2 ^ 60 }
+    ensures low { AreUpTo (2 ^ 60) queue.new.scores }
+{
+    let high = raise_all(queue, step, vars);
+    let next = step + step / 16;
+    if high || next > LIMIT {
+        queue.divide();
+        (next / 1_099_511_627_776).max(1)
+    } else {
+        next
+    }
+}
+
+// Adds an increment to the scores of variables, and answers whether one is then too great.
+fn raise_all(queue: &mut Queue, step: u64, vars: &[u32]) -> bool
+    requires range { All (λ x. (1 ≤ x) × (x ≤ queue.old.variables)) vars.now }
+    requires distinct { IsDistinct (λ x y. x == y) vars.now }
+    requires width { length queue.old.scores ≡ queue.old.variables + 1 }
+    requires step { step ≤ 2 ^ 60 }
+    requires low { AreUpTo (2 ^ 60) queue.old.scores }
+    ensures scores { queue.new ≡ with_scores queue.old (raised step vars.now queue.old.scores) }
+    ensures high { result ≡ is_high queue.new.scores }
+    ensures width { length queue.new.scores ≡ length queue.old.scores }
+    ensures low { AreUpTo (2 ^ 61) queue.new.scores }
+{
+    let mut high = false;
+    for x in vars {
+        let score = queue.score(*x) + step;
+        queue.raise(*x, score);
+        high = high || score > LIMIT;
+    }
+    high
+}
