@@ -3,3 +3,4 @@ pub mod Looking
 pub mod Opening
 pub mod Passing
 pub mod Ranks
+pub mod Scores

@@ -1,5 +1,5 @@
 -- Variables and their places, when two of them are exchanged.
-use Rattle.std.proofs.Common.{ℕ, ◌≡◌, ◌≢◌, ◌+◌, ◌<◌, ◌≤◌, List, sym, refl, ap, ◌∙◌, subst, ⊎_elim, arith, get_or, set, length, get_or-set_same, get_or-set_other, ltb}
+use Rattle.std.proofs.Common.{ℕ, ◌≡◌, ◌≢◌, ◌<◌, ◌≤◌, List, sym, ap, ◌∙◌, ⊎_elim, arith, get_or, set, length, get_or-set_same, get_or-set_other, ltb}
 use Rattle.std.proofs.lemmas.Bool.{cases_eq, le-ltb}
 use Rattle.std.proofs.lemmas.List.{length-set}
 use Rattle.std.specs.List.{SwappedAt}
@@ -26,9 +26,9 @@ exchanged_below i j vars places ws qs e h k low =
     ⊎_elim
     (λ is_i. omega (arith, ap (λ n. get_or ws n 0) is_i, e.at_i, e.size, h.below j e.j_high))
     (λ not_i. ⊎_elim
-        (λ is_j. omega (arith, ap (λ n. get_or ws n 0) is_j, e.at_j, e.size, h.below i e.i_high))
-        (λ not_j. omega (arith, e.else_at k not_i not_j, e.size, h.below k (omega (arith, e.size))))
-        (cases_eq k j))
+    (λ is_j. omega (arith, ap (λ n. get_or ws n 0) is_j, e.at_j, e.size, h.below i e.i_high))
+    (λ not_j. omega (arith, e.else_at k not_i not_j, e.size, h.below k (omega (arith, e.size))))
+    (cases_eq k j))
     (cases_eq k i)
 
 exchanged_placed : (i j : ℕ) (vars places ws qs : List ℕ) → Exchanges i j vars places ws qs → AreLinked vars places
@@ -37,14 +37,14 @@ exchanged_placed i j vars places ws qs e h k low =
     ⊎_elim
     (λ is_i. ap (λ n. get_or qs n 0) (ap (λ n. get_or ws n 0) is_i ∙ e.at_i) ∙ e.of_j ∙ sym is_i)
     (λ not_i. ⊎_elim
-        (λ is_j. ap (λ n. get_or qs n 0) (ap (λ n. get_or ws n 0) is_j ∙ e.at_j) ∙ e.of_i ∙ sym is_j)
-        (λ not_j. let high : k < length vars = omega (arith, e.size) in
-            ap (λ n. get_or qs n 0) (e.else_at k not_i not_j)
-            ∙ e.else_of (get_or vars k 0)
-            (λ same. not_i (sym (h.placed k high) ∙ ap (λ n. get_or places n 0) same ∙ h.placed i e.i_high))
-            (λ same. not_j (sym (h.placed k high) ∙ ap (λ n. get_or places n 0) same ∙ h.placed j e.j_high))
-            ∙ h.placed k high)
-        (cases_eq k j))
+    (λ is_j. ap (λ n. get_or qs n 0) (ap (λ n. get_or ws n 0) is_j ∙ e.at_j) ∙ e.of_i ∙ sym is_j)
+    (λ not_j. let high : k < length vars = omega (arith, e.size) in
+    ap (λ n. get_or qs n 0) (e.else_at k not_i not_j)
+    ∙ e.else_of (get_or vars k 0)
+    (λ same. not_i (sym (h.placed k high) ∙ ap (λ n. get_or places n 0) same ∙ h.placed i e.i_high))
+    (λ same. not_j (sym (h.placed k high) ∙ ap (λ n. get_or places n 0) same ∙ h.placed j e.j_high))
+    ∙ h.placed k high)
+    (cases_eq k j))
     (cases_eq k i)
 
 exchanged_within : (i j : ℕ) (vars places ws qs : List ℕ) → Exchanges i j vars places ws qs → AreLinked vars places
@@ -53,9 +53,9 @@ exchanged_within i j vars places ws qs e h x low =
     ⊎_elim
     (λ is_i. omega (arith, ap (λ n. get_or qs n 0) is_i, e.of_i, e.size, e.j_high))
     (λ not_i. ⊎_elim
-        (λ is_j. omega (arith, ap (λ n. get_or qs n 0) is_j, e.of_j, e.size, e.i_high))
-        (λ not_j. omega (arith, e.else_of x not_i not_j, e.size, h.within x (omega (arith, e.size))))
-        (cases_eq x (get_or vars j 0)))
+    (λ is_j. omega (arith, ap (λ n. get_or qs n 0) is_j, e.of_j, e.size, e.i_high))
+    (λ not_j. omega (arith, e.else_of x not_i not_j, e.size, h.within x (omega (arith, e.size))))
+    (cases_eq x (get_or vars j 0)))
     (cases_eq x (get_or vars i 0))
 
 exchanged_found : (i j : ℕ) (vars places ws qs : List ℕ) → Exchanges i j vars places ws qs → AreLinked vars places
@@ -64,14 +64,14 @@ exchanged_found i j vars places ws qs e h x low =
     ⊎_elim
     (λ is_i. ap (λ n. get_or ws n 0) (ap (λ n. get_or qs n 0) is_i ∙ e.of_i) ∙ e.at_j ∙ sym is_i)
     (λ not_i. ⊎_elim
-        (λ is_j. ap (λ n. get_or ws n 0) (ap (λ n. get_or qs n 0) is_j ∙ e.of_j) ∙ e.at_i ∙ sym is_j)
-        (λ not_j. let high : x < length vars = omega (arith, e.size) in
-            ap (λ n. get_or ws n 0) (e.else_of x not_i not_j)
-            ∙ e.else_at (get_or places x 0)
-            (λ same. not_i (sym (h.found x high) ∙ ap (λ n. get_or vars n 0) same))
-            (λ same. not_j (sym (h.found x high) ∙ ap (λ n. get_or vars n 0) same))
-            ∙ h.found x high)
-        (cases_eq x (get_or vars j 0)))
+    (λ is_j. ap (λ n. get_or ws n 0) (ap (λ n. get_or qs n 0) is_j ∙ e.of_j) ∙ e.at_i ∙ sym is_j)
+    (λ not_j. let high : x < length vars = omega (arith, e.size) in
+    ap (λ n. get_or ws n 0) (e.else_of x not_i not_j)
+    ∙ e.else_at (get_or places x 0)
+    (λ same. not_i (sym (h.found x high) ∙ ap (λ n. get_or vars n 0) same))
+    (λ same. not_j (sym (h.found x high) ∙ ap (λ n. get_or vars n 0) same))
+    ∙ h.found x high)
+    (cases_eq x (get_or vars j 0)))
     (cases_eq x (get_or vars i 0))
 
 -- variable 0 stays where it is
@@ -118,7 +118,7 @@ writes_exchange i j vars places ws i_low i_high j_low j_high h size swapped =
       of_i = get_or-set_same (set places b i) a j 0 a_in;
       of_j = ⊎_elim
           (λ same. let is : j ≡ i = sym (h.placed j j_high) ∙ ap (λ n. get_or places n 0) same ∙ h.placed i i_high in
-              ap (λ n. get_or (set (set places b i) a j) n 0) same ∙ get_or-set_same (set places b i) a j 0 a_in ∙ is)
+          ap (λ n. get_or (set (set places b i) a j) n 0) same ∙ get_or-set_same (set places b i) a j 0 a_in ∙ is)
           (λ differ. get_or-set_other (set places b i) a b j 0 differ ∙ get_or-set_same places b i 0 b_in)
           (cases_eq b a);
       else_of = λ x not_i not_j. get_or-set_other (set places b i) a x j 0 not_i ∙ get_or-set_other places b x i 0 not_j;
@@ -132,10 +132,10 @@ pub same-exchange : (size i j : ℕ) (vars places qs : List ℕ) → AreLinked v
 same-exchange size i j vars places qs h i_in j_in i_up j_up of_i of_j else_of x =
     ⊎_elim
     (λ is_i. le-ltb size (get_or qs x 0) (omega (arith, ap (λ n. get_or qs n 0) is_i, of_i))
-        ∙ sym (le-ltb size (get_or places x 0) (omega (arith, ap (λ n. get_or places n 0) is_i, h.placed i i_in))))
+    ∙ sym (le-ltb size (get_or places x 0) (omega (arith, ap (λ n. get_or places n 0) is_i, h.placed i i_in))))
     (λ not_i. ⊎_elim
-        (λ is_j. le-ltb size (get_or qs x 0) (omega (arith, ap (λ n. get_or qs n 0) is_j, of_j))
-            ∙ sym (le-ltb size (get_or places x 0) (omega (arith, ap (λ n. get_or places n 0) is_j, h.placed j j_in))))
-        (λ not_j. ap (λ n. ltb size n) (else_of x not_i not_j))
-        (cases_eq x (get_or vars j 0)))
+    (λ is_j. le-ltb size (get_or qs x 0) (omega (arith, ap (λ n. get_or qs n 0) is_j, of_j))
+    ∙ sym (le-ltb size (get_or places x 0) (omega (arith, ap (λ n. get_or places n 0) is_j, h.placed j j_in))))
+    (λ not_j. ap (λ n. ltb size n) (else_of x not_i not_j))
+    (cases_eq x (get_or vars j 0)))
     (cases_eq x (get_or vars i 0))

@@ -1,9 +1,8 @@
 -- The first open variable of those below a number.
-use Rattle.std.proofs.Common.{ℕ, ◌≡◌, ◌+◌, ◌<◌, ◌≤◌, Bool, false, true, List, Option, Some, None, sym, ap, ◌∙◌, ⊎_elim, arith}
-use Rattle.std.specs.Prelude.{MatchOption}
+use Rattle.std.proofs.Common.{ℕ, ◌≡◌, ◌<◌, ◌≤◌, false, true, List, Option, Some, None}
 use Rattle.sdcl_base.specs.Literal.{Clause}
 use Rattle.sdcl_decide.specs.Heap.{comes_before}
-use Rattle.sdcl_decide.specs.Queue.{IsOpen, is_given}
+use Rattle.sdcl_decide.specs.Queue.{is_given}
 
 pub record IsBest (n : ℕ) (lits : Clause) (scores : List ℕ) (x : ℕ) : Type 0 where
   pub low : 1 ≤ x

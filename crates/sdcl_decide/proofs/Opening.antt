@@ -1,10 +1,10 @@
 -- The foremost of the variables at hand.
-use Rattle.std.proofs.Common.{ℕ, ◌≡◌, ◌≢◌, ◌+◌, ◌-◌, ◌<◌, ◌≤◌, Bool, false, true, List, sym, refl, ap, ◌∙◌, subst, ⊎_elim, inl, inr, ◌⊎◌, arith, get_or, length, ltb}
-use Rattle.std.proofs.lemmas.Bool.{cases_eq, cases_lt, cases_Bool, lt-ltb, le-ltb, ltb-true, ltb-false, false≢true}
+use Rattle.std.proofs.Common.{ℕ, ◌≡◌, ◌<◌, ◌≤◌, false, true, List, sym, refl, ap, ◌∙◌, ⊎_elim, arith, get_or, length, ltb}
+use Rattle.std.proofs.lemmas.Bool.{cases_eq, cases_lt, cases_Bool, le-ltb, ltb-false, false≢true}
 use Rattle.std.proofs.lemmas.List.{get_or_past}
 use Rattle.sdcl_base.specs.Literal.{Clause}
-use Rattle.sdcl_decide.specs.Heap.{AreLinked, comes_before, rank, rank_at}
-use Rattle.sdcl_decide.specs.Queue.{Ranking, passed_of, IsQueue, IsOpen, IsFirstOpen, IsInStep, IsAtHand, IsForemost, Settles, is_given, was_passed}
+use Rattle.sdcl_decide.specs.Heap.{AreLinked, rank, rank_at}
+use Rattle.sdcl_decide.specs.Queue.{Ranking, passed_of, IsQueue, IsFirstOpen, IsInStep, IsForemost, Settles, is_given}
 use Rattle.sdcl_decide.proofs.Passing.{passed_at, length-passed}
 use Rattle.sdcl_decide.proofs.Ranks.{top_greatest, not_before-rank, rank-not_before, same_rank}
 
@@ -18,8 +18,8 @@ pub place_low : (vars places : List ℕ) (x : ℕ) → AreLinked vars places →
 place_low vars places x h low high =
     ⊎_elim
     (λ none. let at_0 : x ≡ get_or vars 0 0 = sym (h.found x high) ∙ ap (λ n. get_or vars n 0) none in
-        let is_0 : get_or vars 0 0 ≡ 0 = ap (λ n. get_or vars n 0) (sym h.root) ∙ h.found 0 (omega arith) in
-        absurd (omega (arith, at_0, is_0)))
+    let is_0 : get_or vars 0 0 ≡ 0 = ap (λ n. get_or vars n 0) (sym h.root) ∙ h.found 0 (omega arith) in
+    absurd (omega (arith, at_0, is_0)))
     (λ some. omega (arith, some))
     (cases_eq (get_or places x 0) 0)
 
@@ -53,8 +53,8 @@ top_is_first variables last vars places scores lits q some free step =
       first = λ y o. ⊎_elim
           (λ passed. absurd (false≢true (sym o.free ∙ step y o.low o.high passed)))
           (λ left. not_before-rank scores (get_or vars 1 0) y (omega (arith, top_high, q.small)) (omega (arith, o.high, q.small))
-              (below_top variables last vars places scores q y o.low o.high
-                  (at_hand_place last y places (omega (arith, o.high, q.width, q.linked.sizes)) left)))
+          (below_top variables last vars places scores q y o.low o.high
+          (at_hand_place last y places (omega (arith, o.high, q.width, q.linked.sizes)) left)))
           (cases_Bool (get_or (passed_of last places) y false));
     }
 
@@ -78,12 +78,14 @@ foremost_is_top variables last vars places scores q x f =
     let top_low : 1 ≤ get_or vars 1 0 = top_low vars places q.linked second in
     let top_high : get_or vars 1 0 ≤ variables = omega (arith, q.width, q.linked.below 1 second) in
     let top_here : get_or (passed_of last places) (get_or vars 1 0) false ≡ false =
-        passed_at last places (get_or vars 1 0) false (omega (arith, top_high, q.width, q.linked.sizes))
-        ∙ le-ltb last (get_or places (get_or vars 1 0) 0) (omega (arith, q.linked.placed 1 second, some)) in
+    passed_at last places (get_or vars 1 0) false (omega (arith, top_high, q.width, q.linked.sizes))
+    ∙ le-ltb last (get_or places (get_or vars 1 0) 0) (omega (arith, q.linked.placed 1 second, some)) in
     let one : rank scores (get_or vars 1 0) ≤ rank scores x =
-        rank-not_before scores (get_or vars 1 0) x (f.first (get_or vars 1 0) (record { low = top_low; high = top_high; left = top_here })) in
-    (some, same_rank scores x (get_or vars 1 0) (omega (arith, f.is.high, q.small)) (omega (arith, top_high, q.small))
-        (omega (arith, one, below_top variables last vars places scores q x f.is.low f.is.high here)))
+    rank-not_before scores (get_or vars 1 0) x (f.first (get_or vars 1 0) (record { low = top_low; high = top_high; left = top_here })) in (
+      some,
+      same_rank scores x (get_or vars 1 0) (omega (arith, f.is.high, q.small)) (omega (arith, top_high, q.small))
+          (omega (arith, one, below_top variables last vars places scores q x f.is.low f.is.high here)),
+    )
 
 pub settles_by : (variables last after : ℕ) (vars places ns scores : List ℕ) (lits : Clause) → length ns ≡ length places
     → IsQueue variables vars ns scores after

@@ -1,9 +1,9 @@
 -- Ranks in a heap.
-use Rattle.std.proofs.Common.{ℕ, zero, suc, ◌≡◌, ◌≢◌, ◌+◌, ◌-◌, ◌*◌, ◌/◌, ◌<◌, ◌≤◌, Bool, List, true, false, sym, refl, ap, ◌∙◌, subst, ⊎_elim, arith, get_or}
-use Rattle.std.proofs.lemmas.Bool.{cases_eq, cases_lt, or_cases, and_parts, ltb-true, ltb-false, eqb-true}
+use Rattle.std.proofs.Common.{ℕ, zero, suc, ◌≡◌, ◌≢◌, ◌+◌, ◌-◌, ◌/◌, ◌<◌, ◌≤◌, List, true, false, ap, ◌∙◌, subst, ⊎_elim, arith}
+use Rattle.std.proofs.lemmas.Bool.{cases_eq}
 use Rattle.std.proofs.lemmas.Grind.{common_steps}
 use Rattle.std.specs.List.{SwappedAt}
-use Rattle.sdcl_decide.specs.Heap.{comes_before, rank, rank_at, IsHeapFrom, Rises, Sinks, SameBehind, AreLinked}
+use Rattle.sdcl_decide.specs.Heap.{comes_before, rank, rank_at, IsHeapFrom, Rises, Sinks}
 
 -- ---- the order of the ranks
 
@@ -35,21 +35,21 @@ rise_others : (size k : ℕ) (r s : ℕ → ℕ) → AreExchanged k (k / 2) r s 
 rise_others size k r s e h two less i low high other =
     ⊎_elim
     (λ is. let at_i : s i ≡ r (k / 2) = ap s is ∙ e.first in
-        let over_i : s (i / 2) ≡ r k = ap (λ n. s (n / 2)) is ∙ e.second in
-        omega (arith, at_i, over_i))
+    let over_i : s (i / 2) ≡ r k = ap (λ n. s (n / 2)) is ∙ e.second in
+    omega (arith, at_i, over_i))
     (λ differs. let at_i : s i ≡ r i = e.others i differs other in
-        ⊎_elim
-        (λ over_k. let over_i : s (i / 2) ≡ r (k / 2) = ap s over_k ∙ e.first in
-            omega (arith, at_i, over_i, h.over i two high over_k))
-        (λ not_k. ⊎_elim
-            (λ over_p. let over_i : s (i / 2) ≡ r k = ap s over_p ∙ e.second in
-                let old : r i ≤ r (i / 2) = h.others i low high differs in
-                let same : r (i / 2) ≡ r (k / 2) = ap r over_p in
-                omega (arith, at_i, over_i, old, same))
-            (λ not_p. let over_i : s (i / 2) ≡ r (i / 2) = e.others (i / 2) not_k not_p in
-                omega (arith, at_i, over_i, h.others i low high differs))
-            (cases_eq (i / 2) (k / 2)))
-        (cases_eq (i / 2) k))
+    ⊎_elim
+    (λ over_k. let over_i : s (i / 2) ≡ r (k / 2) = ap s over_k ∙ e.first in
+    omega (arith, at_i, over_i, h.over i two high over_k))
+    (λ not_k. ⊎_elim
+    (λ over_p. let over_i : s (i / 2) ≡ r k = ap s over_p ∙ e.second in
+    let old : r i ≤ r (i / 2) = h.others i low high differs in
+    let same : r (i / 2) ≡ r (k / 2) = ap r over_p in
+    omega (arith, at_i, over_i, old, same))
+    (λ not_p. let over_i : s (i / 2) ≡ r (i / 2) = e.others (i / 2) not_k not_p in
+    omega (arith, at_i, over_i, h.others i low high differs))
+    (cases_eq (i / 2) (k / 2)))
+    (cases_eq (i / 2) k))
     (cases_eq i k)
 
 rise_over : (size k : ℕ) (r s : ℕ → ℕ) → AreExchanged k (k / 2) r s → Rises size k r → 2 ≤ k → k ≤ size
@@ -60,9 +60,9 @@ rise_over size k r s e h two within i low high over =
     ⊎_elim
     (λ is. let at_i : s i ≡ r (k / 2) = ap s is ∙ e.first in omega (arith, at_i, top, step))
     (λ differs. let at_i : s i ≡ r i = e.others i differs (λ same. omega (arith, same, over)) in
-        let old : r i ≤ r (i / 2) = h.others i (omega (arith, over)) high differs in
-        let same : r (i / 2) ≡ r (k / 2) = ap r over in
-        omega (arith, at_i, top, step, old, same))
+    let old : r i ≤ r (i / 2) = h.others i (omega (arith, over)) high differs in
+    let same : r (i / 2) ≡ r (k / 2) = ap r over in
+    omega (arith, at_i, top, step, old, same))
     (cases_eq i k)
 
 pub rises_more : (size k : ℕ) (r s : ℕ → ℕ) → AreExchanged k (k / 2) r s → Rises size k r → 2 ≤ k → k ≤ size → r (k / 2) ≤ r k → Rises size (k / 2) s
@@ -76,8 +76,8 @@ pub rises_all : (size k : ℕ) (r : ℕ → ℕ) → Rises size k r → (2 ≤ k
 rises_all size k r h fits i low high over =
     ⊎_elim
     (λ is. let at_i : r i ≡ r k = ap r is in
-        let over_i : r (i / 2) ≡ r (k / 2) = ap (λ n. r (n / 2)) is in
-        omega (arith, at_i, over_i, fits (omega (arith, is))))
+    let over_i : r (i / 2) ≡ r (k / 2) = ap (λ n. r (n / 2)) is in
+    omega (arith, at_i, over_i, fits (omega (arith, is))))
     (λ differs. h.others i low high differs)
     (cases_eq i k)
 
@@ -89,22 +89,22 @@ sink_others : (start size k c : ℕ) (r s : ℕ → ℕ) → AreExchanged k c r 
 sink_others start size k c r s e h half c_low c_high first less i low high from other =
     ⊎_elim
     (λ is_c. let at_i : s i ≡ r k = ap s is_c ∙ e.second in
-        let over_i : s (i / 2) ≡ r c = ap (λ n. s (n / 2)) is_c ∙ ap s half ∙ e.first in
-        omega (arith, at_i, over_i))
+    let over_i : s (i / 2) ≡ r c = ap (λ n. s (n / 2)) is_c ∙ ap s half ∙ e.first in
+    omega (arith, at_i, over_i))
     (λ not_c. ⊎_elim
-        (λ is_k. let at_i : s i ≡ r c = ap s is_k ∙ e.first in
-            let over_i : s (i / 2) ≡ r (i / 2) = e.others (i / 2) (λ same. omega (arith, same, is_k)) other in
-            let same : r (i / 2) ≡ r (k / 2) = ap (λ n. r (n / 2)) is_k in
-            let old : r c ≤ r (k / 2) = h.over c (omega (arith, is_k)) (subst (λ (n : ℕ). start ≤ n / 2) is_k from) c_high half in
-            omega (arith, at_i, over_i, same, old))
-        (λ not_k. let at_i : s i ≡ r i = e.others i not_k not_c in
-            ⊎_elim
-            (λ over_k. let over_i : s (i / 2) ≡ r c = ap s over_k ∙ e.first in
-                omega (arith, at_i, over_i, first i high over_k))
-            (λ not_over. let over_i : s (i / 2) ≡ r (i / 2) = e.others (i / 2) not_over other in
-                omega (arith, at_i, over_i, h.others i low high from not_over))
-            (cases_eq (i / 2) k))
-        (cases_eq i k))
+    (λ is_k. let at_i : s i ≡ r c = ap s is_k ∙ e.first in
+    let over_i : s (i / 2) ≡ r (i / 2) = e.others (i / 2) (λ same. omega (arith, same, is_k)) other in
+    let same : r (i / 2) ≡ r (k / 2) = ap (λ n. r (n / 2)) is_k in
+    let old : r c ≤ r (k / 2) = h.over c (omega (arith, is_k)) (subst (λ (n : ℕ). start ≤ n / 2) is_k from) c_high half in
+    omega (arith, at_i, over_i, same, old))
+    (λ not_k. let at_i : s i ≡ r i = e.others i not_k not_c in
+    ⊎_elim
+    (λ over_k. let over_i : s (i / 2) ≡ r c = ap s over_k ∙ e.first in
+    omega (arith, at_i, over_i, first i high over_k))
+    (λ not_over. let over_i : s (i / 2) ≡ r (i / 2) = e.others (i / 2) not_over other in
+    omega (arith, at_i, over_i, h.others i low high from not_over))
+    (cases_eq (i / 2) k))
+    (cases_eq i k))
     (cases_eq i c)
 
 sink_over : (start size k c : ℕ) (r s : ℕ → ℕ) → AreExchanged k c r s → Sinks start size k r → c / 2 ≡ k → 2 ≤ c
@@ -145,8 +145,11 @@ top_within zero size r h i low below high = absurd (omega arith)
 top_within (suc n) size r h i low below high =
     ⊎_elim
     (λ is. omega (arith, ap r is))
-    (λ differs. omega (arith, h i (omega (arith, differs)) high (omega (arith, differs)),
-        top_within n size r h (i / 2) (omega (arith, differs)) (omega arith) (omega arith)))
+    (λ differs. omega (
+      arith,
+      h i (omega (arith, differs)) high (omega (arith, differs)),
+      top_within n size r h (i / 2) (omega (arith, differs)) (omega arith) (omega arith),
+    ))
     (cases_eq i 1)
 
 -- no rank is above the one at place 1

@@ -1,5 +1,5 @@
 -- What a decider remembers, and what a bump does to it.
-use Rattle.std.specs.Prelude.{ℕ, ◌≡◌, ◌+◌, ◌*◌, ◌/◌, ◌^◌, ◌≤◌, ◌<◌, min, max, Bool, true, false, ◌||◌, nat_lt, List, [], ◌∷◌, length, replicate, slice_index, slice_index_or, slice_set, if◌then◌else◌, ⊤}
+use Rattle.std.specs.Prelude.{ℕ, ◌≡◌, ◌+◌, ◌*◌, ◌/◌, ◌^◌, ◌≤◌, min, max, Bool, true, false, ◌||◌, nat_lt, List, [], ◌∷◌, length, replicate, slice_index, slice_index_or, slice_set, if◌then◌else◌, ⊤}
 use Rattle.std.specs.List.{list_any}
 use Rattle.sdcl_base.specs.Literal.{Literal, Clause}
 use Rattle.sdcl_base.specs.declared.lit.TheConstants.{MAX_VARIABLE}

@@ -1,6 +1,6 @@
 -- Variables in a heap by their scores. Place 0 belongs to no variable; a place has the places at
 -- twice its number, and one more, below it.
-use Rattle.std.specs.Prelude.{ℕ, ◌≡◌, ◌≢◌, ◌+◌, ◌-◌, ◌*◌, ◌/◌, ◌≤◌, ◌<◌, ◌==◌, Bool, ◌&&◌, ◌||◌, nat_lt, nat_le, List, length, slice_index}
+use Rattle.std.specs.Prelude.{ℕ, ◌≡◌, ◌≢◌, ◌+◌, ◌-◌, ◌*◌, ◌/◌, ◌≤◌, ◌<◌, ◌==◌, Bool, ◌&&◌, ◌||◌, nat_lt, List, length, slice_index}
 use Rattle.sdcl_base.specs.declared.lit.TheConstants.{MAX_VARIABLE}
 
 -- whether x comes before y: its score is greater, or the same, and x is lower

@@ -14,6 +14,14 @@ const LAST_BUMP: u64 = 2_199_023_255_552;
 /// A score or an increment above this is too great.
 const LIMIT: u64 = 1_152_921_504_606_846_976;
 
+// The number of the bump after that one.
+fn following(last: u64) -> u64
+    requires { last ≤ 2 ^ 41 }
+    ensures { result ≡ next_bump last }
+{
+    if last < LAST_BUMP { last + 1 } else { last }
+}
+
 /// Brings variables to the front, and answers the number of this bump.
 pub(crate) fn bring_to_front(queue: &mut Queue, last: u64, vars: &[u32]) -> u64
     requires range { All (λ x. (1 ≤ x) × (x ≤ queue.old.variables)) vars.now }
@@ -24,7 +32,7 @@ pub(crate) fn bring_to_front(queue: &mut Queue, last: u64, vars: &[u32]) -> u64
     ensures behind { AreBehind result queue.new.scores }
     ensures width { length queue.new.scores ≡ length queue.old.scores }
 {
-    let number = if last < LAST_BUMP { last + 1 } else { last };
+    let number = following(last);
     for x in vars {
         queue.raise(*x, number * 4_194_304 + *x as u64);
     }

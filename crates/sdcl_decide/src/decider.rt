@@ -8,6 +8,7 @@ ghost use Rattle.std.specs.List.{IsDistinct};
 ghost use Rattle.sdcl_base.specs.declared.lit.TheConstants.{MAX_VARIABLE};
 ghost use Rattle.sdcl_decide.specs.Queue.{IsOpen, NoneOpen, IsInStep, Settles};
 ghost use Rattle.sdcl_decide.specs.Deciding.{fresh, sign_of, saved, with_saved, bumped, IsDecision};
+ghost use Rattle.sdcl_decide.specs.Deciding.{first_step};
 
 use crate::bumping::{add_to_scores, bring_to_front};
 use crate::queue::Queue;
@@ -44,7 +45,10 @@ impl Model for Decider {
     ghost Value = { Preferences };
 
     ghost view = { λ d. record {
-        kind = d.kind; signs = d.signs.items; ranking = d.queue; step = d.step
+      kind = d.kind;
+      signs = d.signs.items;
+      ranking = d.queue;
+      step = d.step;
     } };
 
     ghost invariant = { λ d. IsKept d.kind d.signs.items d.queue d.step };
@@ -59,15 +63,11 @@ impl Decider {
         let width = variables as usize + 1;
         let signs = vec![in alloc; true; width].map_err(|_| NoMemory)?;
         let queue = Queue::new(alloc, variables)?;
-        let step = match kind {
-            DecideKind::Scored => 1_048_576,
-            _ => 0,
-        };
         Ok(Decider {
             kind,
             signs,
             queue,
-            step,
+            step: step_at_start(kind),
         })
     }
 
@@ -144,6 +144,15 @@ impl Decider {
         ensures { result ≡ saved self.now var }
     {
         self.signs[var as usize]
+    }
+}
+
+fn step_at_start(kind: DecideKind) -> u64
+    ensures { result ≡ first_step kind }
+{
+    match kind {
+        DecideKind::Scored => 1_048_576,
+        _ => 0,
     }
 }
 

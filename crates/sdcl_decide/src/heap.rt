@@ -37,13 +37,7 @@ pub(crate) fn exchange(vars: &mut [u32], places: &mut [usize], i: usize, j: usiz
 }
 
 /// Moves the variable at a place up to where it belongs.
-pub(crate) fn rise(
-    vars: &mut [u32],
-    places: &mut [usize],
-    scores: &[u64],
-    size: usize,
-    at: usize,
-)
+pub(crate) fn rise(vars: &mut [u32], places: &mut [usize], scores: &[u64], size: usize, at: usize)
     requires linked { AreLinked vars.old places.old }
     requires scores { length scores.now ≡ length vars.old }
     requires small { length vars.old ≤ MAX_VARIABLE + 1 }
@@ -61,13 +55,7 @@ pub(crate) fn rise(
 }
 
 /// Brings a variable from behind the heap into it, on one place more.
-pub(crate) fn admit(
-    vars: &mut [u32],
-    places: &mut [usize],
-    scores: &[u64],
-    last: usize,
-    var: u32,
-)
+pub(crate) fn admit(vars: &mut [u32], places: &mut [usize], scores: &[u64], last: usize, var: u32)
     requires linked { AreLinked vars.old places.old }
     requires scores { length scores.now ≡ length vars.old }
     requires small { length vars.old ≤ MAX_VARIABLE + 1 }

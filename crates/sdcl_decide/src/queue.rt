@@ -38,7 +38,9 @@ impl Model for Queue {
     ghost Value = { Ranking };
 
     ghost view = { λ q. record {
-        variables = q.variables; scores = q.scores.items; passed = passed_of q.last q.places.items
+      variables = q.variables;
+      scores = q.scores.items;
+      passed = passed_of q.last q.places.items;
     } };
 
     ghost invariant = { λ q.
@@ -93,7 +95,13 @@ impl Queue {
         requires { trail.now.variables ≡ self.old.variables }
         ensures { Settles trail.now.lits self.old self.new }
     {
-        self.last = pass(&mut self.vars, &mut self.places, &self.scores, self.last, trail);
+        self.last = pass(
+            &mut self.vars,
+            &mut self.places,
+            &self.scores,
+            self.last,
+            trail,
+        );
     }
 
     /// Puts a variable back that was passed.
@@ -102,7 +110,13 @@ impl Queue {
         ensures { self.new ≡ record self.old { passed = slice_set self.old.passed var false } }
     {
         if self.places[var as usize] > self.last {
-            admit(&mut self.vars, &mut self.places, &self.scores, self.last, var);
+            admit(
+                &mut self.vars,
+                &mut self.places,
+                &self.scores,
+                self.last,
+                var,
+            );
             self.last += 1;
         }
     }
@@ -116,7 +130,13 @@ impl Queue {
         self.scores[var as usize] = score;
         let at = self.places[var as usize];
         if at <= self.last {
-            rise(&mut self.vars, &mut self.places, &self.scores, self.last, at);
+            rise(
+                &mut self.vars,
+                &mut self.places,
+                &self.scores,
+                self.last,
+                at,
+            );
         }
     }
 
@@ -194,13 +214,7 @@ fn look(scores: &[u64], variables: u32, trail: &Trail) -> Option<u32>
 }
 
 // Takes the top off the heap as long as the trail assigns it, and answers the last place then.
-fn pass(
-    vars: &mut [u32],
-    places: &mut [usize],
-    scores: &[u64],
-    last: usize,
-    trail: &Trail,
-) -> usize
+fn pass(vars: &mut [u32], places: &mut [usize], scores: &[u64], last: usize, trail: &Trail) -> usize
     requires linked { AreLinked vars.old places.old }
     requires scores { length scores.now ≡ length vars.old }
     requires small { length vars.old ≤ MAX_VARIABLE + 1 }

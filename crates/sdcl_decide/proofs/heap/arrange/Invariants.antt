@@ -1,4 +1,4 @@
-use Rattle.std.proofs.Common.{◌+◌, ◌≤◌, ◌/◌}
+use Rattle.std.proofs.Common.{◌+◌}
 use Rattle.sdcl_decide.specs.Heap.{rank_at, AreLinked, IsHeapFrom, SameBehind}
 use Rattle.sdcl_decide.proofs.heap.arrange.Given as goal
 

@@ -1,6 +1,5 @@
 use Rattle.std.proofs.Common.{◌≤◌, sym, ◌∙◌, ◌/◌, get_or, arith}
-use Rattle.std.proofs.lemmas.Bool.{cases_eq}
-use Rattle.sdcl_decide.specs.Heap.{rank_at, comes_before}
+use Rattle.sdcl_decide.specs.Heap.{rank_at}
 use Rattle.sdcl_decide.proofs.Links.{same-exchange}
 use Rattle.sdcl_decide.proofs.Ranks.{rank-before, rank-not_before, ranks_exchanged, rises_more, rises_all}
 use Rattle.sdcl_decide.proofs.heap.rise.Goals as goal

@@ -1,4 +1,4 @@
-use Rattle.std.proofs.Common.{ℕ, ◌≡◌, ◌≤◌, ◌/◌, sym, ◌∙◌, get_or, arith}
+use Rattle.std.proofs.Common.{◌≡◌, ◌≤◌, ◌/◌, sym, ◌∙◌, get_or, arith}
 use Rattle.sdcl_decide.specs.Heap.{rank_at}
 use Rattle.sdcl_decide.proofs.Links.{same-exchange}
 use Rattle.sdcl_decide.proofs.Ranks.{rank-before, ranks_exchanged, sinks_more}
@@ -18,7 +18,7 @@ loop-at-preserved c =
           c.loop-at.invariant.order half c.first_below-below.ensures.within.0 high
           c.first_below-below.ensures.first
           (rank-before c.args.scores.now (get_or c.loop-at.vars below 0) (get_or c.loop-at.vars at 0)
-              (sym c.is_before.ensures ∙ c.if-not-is_before.false));
+          (sym c.is_before.ensures ∙ c.if-not-is_before.false));
       same = λ x. same-exchange c.args.size at below c.loop-at.vars c.loop-at.places c.exchange.new.places
           c.loop-at.invariant.linked (omega arith) (omega arith) (omega arith) high
           c.exchange.ensures.i c.exchange.ensures.j c.exchange.ensures.others x

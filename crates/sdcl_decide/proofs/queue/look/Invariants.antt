@@ -1,7 +1,3 @@
-use Rattle.std.proofs.Common.{ℕ, ◌≡◌, ◌<◌, ◌≤◌, false, true}
-use Rattle.std.specs.Prelude.{MatchOption}
-use Rattle.sdcl_decide.specs.Heap.{comes_before}
-use Rattle.sdcl_decide.specs.Queue.{IsOpen, is_given}
 use Rattle.sdcl_decide.proofs.Looking.{IsBestBelow}
 use Rattle.sdcl_decide.proofs.queue.look.Given as goal
 

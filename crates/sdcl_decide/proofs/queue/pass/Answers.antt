@@ -1,8 +1,6 @@
-use Rattle.std.proofs.Common.{ap, ◌∙◌, ◌≡◌, ◌-◌, ◌≤◌, ◌<◌, arith, length, true, sym, ⊎_elim, get_or}
+use Rattle.std.proofs.Common.{ap, ◌∙◌, ◌<◌, arith, length, sym, ⊎_elim}
 use Rattle.sdcl_decide.specs.Queue.{is_given}
-use Rattle.sdcl_decide.specs.Heap.{rank_at}
 use Rattle.sdcl_decide.proofs.Passing.{passed_stay, passed_only}
-use Rattle.sdcl_decide.proofs.Ranks.{ranks_exchanged, sinks_first}
 use Rattle.sdcl_decide.proofs.queue.pass.Goals as goal
 
 pub loop-last-preserved : goal.loop-last-preserved
@@ -20,6 +18,6 @@ loop-last-preserved c =
           (λ is. ap (is_given c.args.trail.now.lits) is ∙ sym c.if-is_assigned.ensures)
           (λ behind. c.loop-last.invariant.only x left behind)
           (passed_only last c.loop-last.vars c.loop-last.places c.exchange.new.places c.sink.new.places
-              c.loop-last.invariant.linked (omega arith) room c.exchange.ensures.i c.exchange.ensures.j c.exchange.ensures.others
-              c.sink.ensures.same x h);
+          c.loop-last.invariant.linked (omega arith) room c.exchange.ensures.i c.exchange.ensures.j c.exchange.ensures.others
+          c.sink.ensures.same x h);
     }

@@ -1,4 +1,4 @@
-use Rattle.std.proofs.Common.{ℕ, ◌≡◌, ◌<◌, ◌≤◌, false, true, slice_index}
+use Rattle.std.proofs.Common.{ℕ, ◌≡◌, ◌≤◌, false, true, slice_index}
 use Rattle.std.specs.Prelude.{nat_lt}
 use Rattle.sdcl_decide.specs.Heap.{rank_at, AreLinked, IsHeapFrom}
 use Rattle.sdcl_decide.specs.Queue.{is_given}

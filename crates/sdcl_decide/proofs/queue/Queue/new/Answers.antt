@@ -1,4 +1,4 @@
-use Rattle.std.proofs.Common.{rules, ap, refl, ◌∙◌, ◌+◌, ◌≡◌, arith, length, replicate, List, Bool, false, ℕ}
+use Rattle.std.proofs.Common.{rules, ap, refl, ◌∙◌, ◌+◌, ◌≡◌, replicate, List, Bool, ℕ}
 use Rattle.sdcl_decide.specs.Queue.{Ranking, passed_of}
 use Rattle.sdcl_decide.proofs.Passing.{passed_none}
 use Rattle.sdcl_decide.proofs.queue.Queue.new.Goals as goal
@@ -9,4 +9,4 @@ returns c =
     let zeros : c.in_ok-scores.scores.items ≡ replicate (c.args.variables + 1) 0 = search rules in
     ap (λ s. made s (passed_of c.args.variables c.in_ok-places_in_order.field-0.items)) zeros
     ∙ ap (made (replicate (c.args.variables + 1) 0))
-      (passed_none (c.args.variables + 1) c.args.variables c.in_ok-places_in_order.field-0.items refl c.in_ok-places_in_order.ensures)
+    (passed_none (c.args.variables + 1) c.args.variables c.in_ok-places_in_order.field-0.items refl c.in_ok-places_in_order.ensures)
