@@ -88,33 +88,37 @@ with_scores r scores = record r { scores = scores }
 abbrev pub is_high : List ℕ → Bool
 is_high scores = list_any (λ s. nat_lt (2 ^ 60) s) scores
 
--- the same, but where a score or the increment is above 2 ^ 60 they are all divided by 2 ^ 40,
--- rounded down, the increment to 1 at least
-abbrev pub scaled : Preferences → Preferences
-scaled d =
-    if is_high d.ranking.scores || nat_lt (2 ^ 60) d.step
-    then record d {
-      ranking = with_scores d.ranking (divided d.ranking.scores);
-      step = max (d.step / 2 ^ 40) 1;
-    }
-    else d
+-- the increment after that one: a sixteenth more
+abbrev pub grown : ℕ → ℕ
+grown step = step + step / 16
 
--- what a bump of the variables leaves, by the rule
-abbrev pub bumped_by : DecideKind → Preferences → List ℕ → Preferences
-bumped_by kind.Static d vars = d
-bumped_by kind.MoveToFront d vars =
-    record d {
-      ranking = with_scores d.ranking (fronted (next_bump d.step) vars d.ranking.scores);
-      step = next_bump d.step;
-    }
-bumped_by kind.Scored d vars =
-    scaled (record d {
-      ranking = with_scores d.ranking (raised d.step vars d.ranking.scores);
-      step = d.step + d.step / 16;
-    })
+-- whether a score or the increment is too great after a bump of Scored
+abbrev pub is_too_great : ℕ → List ℕ → Bool
+is_too_great step scores = is_high scores || nat_lt (2 ^ 60) step
 
+-- the scores after a bump by the rule. In Scored they are then divided, where one is too great
+abbrev pub bumped_scores : DecideKind → ℕ → List ℕ → List ℕ → List ℕ
+bumped_scores kind.Static step vars scores = scores
+bumped_scores kind.MoveToFront step vars scores = fronted (next_bump step) vars scores
+bumped_scores kind.Scored step vars scores =
+    if is_too_great (grown step) (raised step vars scores)
+    then divided (raised step vars scores)
+    else raised step vars scores
+
+-- the number of the bump, or the increment after it, which is divided with the scores, to 1 at least
+abbrev pub bumped_step : DecideKind → ℕ → List ℕ → List ℕ → ℕ
+bumped_step kind.Static step vars scores = step
+bumped_step kind.MoveToFront step vars scores = next_bump step
+bumped_step kind.Scored step vars scores =
+    if is_too_great (grown step) (raised step vars scores) then max (grown step / 2 ^ 40) 1 else grown step
+
+-- what a bump of the variables leaves
 abbrev pub bumped : Preferences → List ℕ → Preferences
-bumped d vars = bumped_by d.kind d vars
+bumped d vars =
+    record d {
+      ranking = with_scores d.ranking (bumped_scores d.kind d.step vars d.ranking.scores);
+      step = bumped_step d.kind d.step vars d.ranking.scores;
+    }
 
 -- ---- what it keeps
 

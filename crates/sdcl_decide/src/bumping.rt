@@ -1,10 +1,10 @@
 //! What a bump does to the scores.
-ghost use Rattle.std.specs.Prelude.{◌≡◌, ◌≢◌, ◌+◌, ◌*◌, ◌/◌, ◌^◌, ◌<◌, ◌≤◌, ◌==◌, ◌||◌, nat_lt, max, length, All, if◌then◌else◌};
+ghost use Rattle.std.specs.Prelude.{◌≡◌, ◌+◌, ◌^◌, ◌<◌, ◌≤◌, ◌==◌, length, All};
 ghost use Rattle.std.specs.List.{IsDistinct};
-ghost use Rattle.sdcl_decide.specs.Queue.{divided};
 ghost use Rattle.sdcl_decide.specs.Deciding.{next_bump, fronted, raised, with_scores, is_high};
-ghost use Rattle.sdcl_decide.specs.Deciding.{AreBehind, AreUpTo};
+ghost use Rattle.sdcl_decide.specs.Deciding.{bumped_scores, bumped_step, AreBehind, AreUpTo};
 
+use crate::decider::DecideKind;
 use crate::queue::Queue;
 
 /// The number at which those of bumps stand still. No run has so many bumps: each comes with a
@@ -28,7 +28,8 @@ pub(crate) fn bring_to_front(queue: &mut Queue, last: u64, vars: &[u32]) -> u64
     requires last { last ≤ 2 ^ 41 }
     requires behind { AreBehind last queue.old.scores }
     ensures number { result ≡ next_bump last }
-    ensures scores { queue.new ≡ with_scores queue.old (fronted (next_bump last) vars.now queue.old.scores) }
+    ensures scores { queue.new ≡ with_scores queue.old
+        (fronted (next_bump last) vars.now queue.old.scores) }
     ensures behind { AreBehind result queue.new.scores }
     ensures width { length queue.new.scores ≡ length queue.old.scores }
 {
@@ -46,12 +47,9 @@ pub(crate) fn add_to_scores(queue: &mut Queue, step: u64, vars: &[u32]) -> u64
     requires width { length queue.old.scores ≡ queue.old.variables + 1 }
     requires step { step ≤ 2 ^ 60 }
     requires low { AreUpTo (2 ^ 60) queue.old.scores }
-    ensures scores { let scores = raised step vars.now queue.old.scores in
-        let high = is_high scores || nat_lt (2 ^ 60) (step + step / 16) in
-        queue.new ≡ with_scores queue.old (if high then divided scores else scores) }
-    ensures step { let scores = raised step vars.now queue.old.scores in
-        let high = is_high scores || nat_lt (2 ^ 60) (step + step / 16) in
-        result ≡ (if high then max ((step + step / 16) / 2 ^ 40) 1 else step + step / 16) }
+    ensures scores { queue.new ≡ with_scores queue.old
+        (bumped_scores DecideKind.Scored step vars.now queue.old.scores) }
+    ensures step { result ≡ bumped_step DecideKind.Scored step vars.now queue.old.scores }
     ensures width { length queue.new.scores ≡ length queue.old.scores }
     ensures few { result ≤ 2 ^ 60 }
     ensures low { AreUpTo (2 ^ 60) queue.new.scores }

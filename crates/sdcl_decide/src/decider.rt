@@ -78,7 +78,8 @@ impl Decider {
     pub fn next(&self, trail: &Trail) -> Option<Lit>
         requires { trail.now.variables ≡ self.now.ranking.variables }
         ensures none { IfNone result (NoneOpen self.now.ranking.variables trail.now.lits) }
-        ensures found { IfSome result (λ l. IsOpen self.now.ranking.variables trail.now.lits l.var) }
+        ensures found { IfSome result
+            (λ l. IsOpen self.now.ranking.variables trail.now.lits l.var) }
         ensures sign { IfSome result (λ l. l.positive ≡ sign_of self.now l.var) }
         ensures rule { IsInStep self.now.ranking trail.now.lits
             → IfSome result (IsDecision self.now trail.now.lits) }

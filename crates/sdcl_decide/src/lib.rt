@@ -5,5 +5,7 @@ mod bumping;
 pub mod decider;
 mod heap;
 mod queue;
+#[cfg(test)]
+mod tests;
 
 pub use decider::{DecideKind, Decider};

@@ -4,14 +4,13 @@
 //! Sorensson, 2003). What the trail assigns is passed when it comes to the top, and is put back
 //! when the trail gives it up. So the first open variable is at hand, and each call takes time
 //! logarithmic in the number of variables; to pass is paid by what was put back.
-ghost use Rattle.std.specs.Prelude.{◌≡◌, ◌≢◌, ◌+◌, ◌*◌, ◌/◌, ◌<◌, ◌≤◌, ℕ, length, map, slice_index};
-ghost use Rattle.std.specs.Prelude.{IfOk, IfNone, IfSome, MatchOption, slice_set, false, true, nat_lt};
-ghost use Rattle.sdcl_base.specs.declared.lit.TheConstants.{MAX_VARIABLE};
-ghost use Rattle.sdcl_base.specs.Literal.{names, pos_lit};
-ghost use Rattle.sdcl_decide.specs.Heap.{comes_before, rank_at, AreLinked, IsHeapFrom, SameBehind};
-ghost use Rattle.sdcl_decide.specs.Queue.{unranked, IsOpen, IsFirstOpen, NoneOpen, IsInStep, Settles};
-ghost use Rattle.sdcl_decide.specs.Queue.{is_given, IsInOrder, divided};
+ghost use Rattle.std.specs.Prelude.{◌≡◌, ◌+◌, ◌<◌, ◌≤◌, ℕ, length, slice_index, slice_set};
+ghost use Rattle.std.specs.Prelude.{IfOk, IfNone, IfSome, false, true, nat_lt};
 ghost use Rattle.std.specs.Option.{option_map_or};
+ghost use Rattle.sdcl_base.specs.declared.lit.TheConstants.{MAX_VARIABLE};
+ghost use Rattle.sdcl_decide.specs.Heap.{comes_before, rank_at, AreLinked, IsHeapFrom};
+ghost use Rattle.sdcl_decide.specs.Queue.{unranked, divided, is_given, IsOpen, IsFirstOpen};
+ghost use Rattle.sdcl_decide.specs.Queue.{NoneOpen, IsInStep, Settles, IsInOrder};
 
 use crate::heap::{admit, arrange, exchange, is_before, rise, sink};
 use sdcl_base::NoMemory;
