@@ -106,13 +106,7 @@ impl Bench {
 
     // Takes the levels above a level back, and saves what leaves the trail.
     fn back(&mut self, level: u32) {
-        for i in 0..self.trail.len() {
-            let l = self.trail.at(i);
-            if self.trail.level_of(l.var()).map_or(false, |n| n > level) {
-                self.decider.save(l);
-                self.plain.save(l);
-            }
-        }
+        save_above(&mut self.decider, &mut self.plain, &self.trail, level);
         if level <= self.trail.level() {
             self.trail.pop_to(level);
         }
@@ -141,6 +135,21 @@ impl Bench {
             _ => return Ok(self.decide()),
         }
         Ok(true)
+    }
+}
+
+// Saves the literals above a level.
+fn save_above(decider: &mut Decider, plain: &mut Plain, trail: &Trail, level: u32)
+    requires decider { decider.old.ranking.variables ≡ 9 }
+    requires trail { trail.now.variables ≡ 9 }
+    ensures { decider.new.ranking.variables ≡ 9 }
+{
+    for i in 0..trail.len() {
+        let l = trail.at(i);
+        if trail.level_of(l.var()).map_or(false, |n| n > level) {
+            decider.save(l);
+            plain.save(l);
+        }
     }
 }
 
