@@ -1,3 +1,4 @@
+pub mod Front
 pub mod Links
 pub mod Looking
 pub mod Opening

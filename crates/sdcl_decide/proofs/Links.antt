@@ -18,9 +18,11 @@ pub record Exchanges (i j : ℕ) (vars places ws qs : List ℕ) : Type 0 where
   pub else_at : (k : ℕ) → k ≢ i → k ≢ j → get_or ws k 0 ≡ get_or vars k 0
   pub of_i : get_or qs (get_or vars i 0) 0 ≡ j
   pub of_j : get_or qs (get_or vars j 0) 0 ≡ i
-  pub else_of : (x : ℕ) → x ≢ get_or vars i 0 → x ≢ get_or vars j 0 → get_or qs x 0 ≡ get_or places x 0
+  pub else_of : (x : ℕ) → x ≢ get_or vars i 0 → x ≢ get_or vars j 0
+      → get_or qs x 0 ≡ get_or places x 0
 
-exchanged_below : (i j : ℕ) (vars places ws qs : List ℕ) → Exchanges i j vars places ws qs → AreLinked vars places
+exchanged_below : (i j : ℕ) (vars places ws qs : List ℕ) → Exchanges i j vars places ws qs
+    → AreLinked vars places
     → (k : ℕ) → k < length ws → get_or ws k 0 < length ws
 exchanged_below i j vars places ws qs e h k low =
     ⊎_elim
@@ -31,7 +33,8 @@ exchanged_below i j vars places ws qs e h k low =
     (cases_eq k j))
     (cases_eq k i)
 
-exchanged_placed : (i j : ℕ) (vars places ws qs : List ℕ) → Exchanges i j vars places ws qs → AreLinked vars places
+exchanged_placed : (i j : ℕ) (vars places ws qs : List ℕ) → Exchanges i j vars places ws qs
+    → AreLinked vars places
     → (k : ℕ) → k < length ws → get_or qs (get_or ws k 0) 0 ≡ k
 exchanged_placed i j vars places ws qs e h k low =
     ⊎_elim
@@ -47,7 +50,8 @@ exchanged_placed i j vars places ws qs e h k low =
     (cases_eq k j))
     (cases_eq k i)
 
-exchanged_within : (i j : ℕ) (vars places ws qs : List ℕ) → Exchanges i j vars places ws qs → AreLinked vars places
+exchanged_within : (i j : ℕ) (vars places ws qs : List ℕ) → Exchanges i j vars places ws qs
+    → AreLinked vars places
     → (x : ℕ) → x < length ws → get_or qs x 0 < length ws
 exchanged_within i j vars places ws qs e h x low =
     ⊎_elim
@@ -58,7 +62,8 @@ exchanged_within i j vars places ws qs e h x low =
     (cases_eq x (get_or vars j 0)))
     (cases_eq x (get_or vars i 0))
 
-exchanged_found : (i j : ℕ) (vars places ws qs : List ℕ) → Exchanges i j vars places ws qs → AreLinked vars places
+exchanged_found : (i j : ℕ) (vars places ws qs : List ℕ) → Exchanges i j vars places ws qs
+    → AreLinked vars places
     → (x : ℕ) → x < length ws → get_or ws (get_or qs x 0) 0 ≡ x
 exchanged_found i j vars places ws qs e h x low =
     ⊎_elim
@@ -75,7 +80,8 @@ exchanged_found i j vars places ws qs e h x low =
     (cases_eq x (get_or vars i 0))
 
 -- variable 0 stays where it is
-exchanged_root : (i j : ℕ) (vars places ws qs : List ℕ) → Exchanges i j vars places ws qs → AreLinked vars places
+exchanged_root : (i j : ℕ) (vars places ws qs : List ℕ) → Exchanges i j vars places ws qs
+    → AreLinked vars places
     → get_or qs 0 0 ≡ 0
 exchanged_root i j vars places ws qs e h =
     e.else_of 0
@@ -83,7 +89,8 @@ exchanged_root i j vars places ws qs e h =
     (λ same. omega (arith, e.j_low, h.placed j e.j_high, ap (λ n. get_or places n 0) same, h.root))
     ∙ h.root
 
-pub linked-exchange : (i j : ℕ) (vars places ws qs : List ℕ) → Exchanges i j vars places ws qs → AreLinked vars places → AreLinked ws qs
+pub linked-exchange : (i j : ℕ) (vars places ws qs : List ℕ) → Exchanges i j vars places ws qs
+    → AreLinked vars places → AreLinked ws qs
 linked-exchange i j vars places ws qs e h = record {
   sizes = omega (arith, e.size, e.room, h.sizes);
   below = exchanged_below i j vars places ws qs e h;
@@ -95,7 +102,8 @@ linked-exchange i j vars places ws qs e h = record {
 
 -- ---- the code's writes
 
-pub writes_exchange : (i j : ℕ) (vars places ws : List ℕ) → 1 ≤ i → i < length vars → 1 ≤ j → j < length vars
+pub writes_exchange : (i j : ℕ) (vars places ws : List ℕ) → 1 ≤ i → i < length vars → 1 ≤ j
+    → j < length vars
     → AreLinked vars places → length ws ≡ length vars → SwappedAt vars ws i j
     → Exchanges i j vars places ws (set (set places (get_or ws i 0) i) (get_or ws j 0) j)
 writes_exchange i j vars places ws i_low i_high j_low j_high h size swapped =
@@ -103,7 +111,8 @@ writes_exchange i j vars places ws i_low i_high j_low j_high h size swapped =
     let b = get_or vars j 0 in
     let at_i : get_or ws i 0 ≡ b = swapped.0 0 in
     let at_j : get_or ws j 0 ≡ a = swapped.1 0 in
-    let a_in : a < length (set places b i) = omega (arith, length-set places b i, h.sizes, h.below i i_high) in
+    let a_in : a < length (set places b i) =
+    omega (arith, length-set places b i, h.sizes, h.below i i_high) in
     let b_in : b < length places = omega (arith, h.sizes, h.below j j_high) in
     rw (at_i, at_j) (record {
       i_low = i_low;
@@ -117,25 +126,32 @@ writes_exchange i j vars places ws i_low i_high j_low j_high h size swapped =
       else_at = λ k not_i not_j. swapped.2 k 0 not_i not_j;
       of_i = get_or-set_same (set places b i) a j 0 a_in;
       of_j = ⊎_elim
-          (λ same. let is : j ≡ i = sym (h.placed j j_high) ∙ ap (λ n. get_or places n 0) same ∙ h.placed i i_high in
-          ap (λ n. get_or (set (set places b i) a j) n 0) same ∙ get_or-set_same (set places b i) a j 0 a_in ∙ is)
-          (λ differ. get_or-set_other (set places b i) a b j 0 differ ∙ get_or-set_same places b i 0 b_in)
+          (λ same. let is : j ≡ i = sym (h.placed j j_high) ∙ ap (λ n. get_or places n 0) same
+          ∙ h.placed i i_high in
+          ap (λ n. get_or (set (set places b i) a j) n 0) same
+          ∙ get_or-set_same (set places b i) a j 0 a_in ∙ is)
+          (λ differ. get_or-set_other (set places b i) a b j 0 differ
+          ∙ get_or-set_same places b i 0 b_in)
           (cases_eq b a);
-      else_of = λ x not_i not_j. get_or-set_other (set places b i) a x j 0 not_i ∙ get_or-set_other places b x i 0 not_j;
+      else_of = λ x not_i not_j. get_or-set_other (set places b i) a x j 0 not_i
+          ∙ get_or-set_other places b x i 0 not_j;
     })
 
 -- an exchange within the places up to `size` leaves the same variables there
-pub same-exchange : (size i j : ℕ) (vars places qs : List ℕ) → AreLinked vars places → i < length vars → j < length vars → i ≤ size → j ≤ size
+pub same-exchange : (size i j : ℕ) (vars places qs : List ℕ) → AreLinked vars places
+    → i < length vars → j < length vars → i ≤ size → j ≤ size
     → get_or qs (get_or vars i 0) 0 ≡ j → get_or qs (get_or vars j 0) 0 ≡ i
     → ((x : ℕ) → x ≢ get_or vars i 0 → x ≢ get_or vars j 0 → get_or qs x 0 ≡ get_or places x 0)
     → SameBehind size places qs
 same-exchange size i j vars places qs h i_in j_in i_up j_up of_i of_j else_of x =
     ⊎_elim
     (λ is_i. le-ltb size (get_or qs x 0) (omega (arith, ap (λ n. get_or qs n 0) is_i, of_i))
-    ∙ sym (le-ltb size (get_or places x 0) (omega (arith, ap (λ n. get_or places n 0) is_i, h.placed i i_in))))
+    ∙ sym (le-ltb size (get_or places x 0)
+    (omega (arith, ap (λ n. get_or places n 0) is_i, h.placed i i_in))))
     (λ not_i. ⊎_elim
     (λ is_j. le-ltb size (get_or qs x 0) (omega (arith, ap (λ n. get_or qs n 0) is_j, of_j))
-    ∙ sym (le-ltb size (get_or places x 0) (omega (arith, ap (λ n. get_or places n 0) is_j, h.placed j j_in))))
+    ∙ sym (le-ltb size (get_or places x 0)
+    (omega (arith, ap (λ n. get_or places n 0) is_j, h.placed j j_in))))
     (λ not_j. ap (λ n. ltb size n) (else_of x not_i not_j))
     (cases_eq x (get_or vars j 0)))
     (cases_eq x (get_or vars i 0))

@@ -27,9 +27,11 @@ or_past true b c = refl
 or_past false b c = refl
 
 -- a score that was not too great becomes n
-pub is_high-set : (scores : List ℕ) (x n : ℕ) → x < length scores → get_or scores x 0 ≤ 2 ^ 60 → is_high (set scores x n) ≡ (is_high scores || ltb (2 ^ 60) n)
+pub is_high-set : (scores : List ℕ) (x n : ℕ) → x < length scores → get_or scores x 0 ≤ 2 ^ 60
+    → is_high (set scores x n) ≡ (is_high scores || ltb (2 ^ 60) n)
 is_high-set [] x n within low = absurd (omega arith)
-is_high-set (s ∷ ss) zero n within low = rw (le-ltb (2 ^ 60) s low) (or_swapped (ltb (2 ^ 60) n) (is_high ss))
+is_high-set (s ∷ ss) zero n within low = rw (le-ltb (2 ^ 60) s low)
+    (or_swapped (ltb (2 ^ 60) n) (is_high ss))
 is_high-set (s ∷ ss) (suc x) n within low =
     ap (λ b. ltb (2 ^ 60) s || b) (is_high-set ss x n (omega arith) low)
     ∙ or_past (ltb (2 ^ 60) s) (is_high ss) (ltb (2 ^ 60) n)
@@ -38,43 +40,60 @@ is_high-set (s ∷ ss) (suc x) n within low =
 
 pub raised_more : (step : ℕ) (vars scores : List ℕ) (i : ℕ) → i < length vars
     → raised step (drop i vars) scores
-    ≡ raised step (drop (i + 1) vars) (set scores (get_or vars i 0) (get_or scores (get_or vars i 0) 0 + step))
+    ≡ raised step (drop (i + 1) vars)
+    (set scores (get_or vars i 0) (get_or scores (get_or vars i 0) 0 + step))
 raised_more step vars scores i within = at_drop_more (λ xs. raised step xs scores) vars i 0 within
 
 -- the scores of distinct variables that are to come stay as they are
 pub to_come_more : (vars scores : List ℕ) (i n : ℕ) → IsDistinct (λ x y. x == y) vars
     → ((j : ℕ) → i ≤ j → j < length vars → get_or scores (get_or vars j 0) 0 ≤ 2 ^ 60)
-    → (j : ℕ) → i + 1 ≤ j → j < length vars → get_or (set scores (get_or vars i 0) n) (get_or vars j 0) 0 ≤ 2 ^ 60
+    → (j : ℕ) → i + 1 ≤ j → j < length vars
+    → get_or (set scores (get_or vars i 0) n) (get_or vars j 0) 0 ≤ 2 ^ 60
 to_come_more vars scores i n apart h j later within =
-    let differ : get_or vars i 0 ≢ get_or vars j 0 = AllPairs-from_IsDistinct Decides-eqb vars apart i j 0 (omega arith) within in
-    omega (arith, get_or-set_other scores (get_or vars i 0) (get_or vars j 0) n 0 (λ same. differ (sym same)), h j (omega arith) within)
+    let differ : get_or vars i 0 ≢ get_or vars j 0 =
+    AllPairs-from_IsDistinct Decides-eqb vars apart i j 0 (omega arith) within in
+    omega (
+      arith,
+      get_or-set_other scores (get_or vars i 0) (get_or vars j 0) n 0
+          (λ same. differ (sym same)),
+      h j (omega arith) within,
+    )
 
-pub AreUpTo-set : (most : ℕ) (scores : List ℕ) (v n : ℕ) → AreUpTo most scores → v < length scores → n ≤ most → AreUpTo most (set scores v n)
+pub AreUpTo-set : (most : ℕ) (scores : List ℕ) (v n : ℕ) → AreUpTo most scores → v < length scores
+    → n ≤ most → AreUpTo most (set scores v n)
 AreUpTo-set most scores v n h within low x =
     ⊎_elim
-    (λ is. omega (arith, ap (λ k. get_or (set scores v n) k 0) is, get_or-set_same scores v n 0 within))
+    (λ is. omega
+    (arith, ap (λ k. get_or (set scores v n) k 0) is, get_or-set_same scores v n 0 within))
     (λ differs. omega (arith, get_or-set_other scores v x n 0 differs, h x))
     (cases_eq x v)
 
 -- ---- the division
 
-pub AreUpTo-divided : (scores : List ℕ) → AreUpTo (2 ^ 61) scores → AreUpTo (2 ^ 60) (divided scores)
+pub AreUpTo-divided : (scores : List ℕ) → AreUpTo (2 ^ 61) scores
+    → AreUpTo (2 ^ 60) (divided scores)
 AreUpTo-divided scores h x =
     ⊎_elim
     (λ within. omega (arith, get_or-map (λ (s : ℕ). s / 2 ^ 40) scores x 0 0 within, h x))
-    (λ past. omega (arith, get_or_past (divided scores) x 0 (omega (arith, past, length-map scores (λ (s : ℕ). s / 2 ^ 40)))))
+    (λ past. omega (
+      arith,
+      get_or_past (divided scores) x 0
+          (omega (arith, past, length-map scores (λ (s : ℕ). s / 2 ^ 40))),
+    ))
     (cases_lt x (length scores))
 
 -- ---- the start
 
-none_above : (width x : ℕ) → get_or (replicate {A = ℕ} width 0) x 0 ≡ 0
+pub none_above : (width x : ℕ) → get_or (replicate {A = ℕ} width 0) x 0 ≡ 0
 none_above width x =
     ⊎_elim
     (λ within. get_or-replicate width x 0 0 within)
-    (λ past. get_or_past (replicate width 0) x 0 (omega (arith, past, length-replicate {A = ℕ} width 0)))
+    (λ past. get_or_past (replicate width 0) x 0
+    (omega (arith, past, length-replicate {A = ℕ} width 0)))
     (cases_lt x width)
 
-pub bounded_first : (rule : DecideKind) (width : ℕ) → IsBounded rule (first_step rule) (replicate width 0)
+pub bounded_first : (rule : DecideKind) (width : ℕ)
+    → IsBounded rule (first_step rule) (replicate width 0)
 bounded_first kind.Static width = tt
 bounded_first kind.MoveToFront width = (omega arith, λ x. omega (arith, none_above width x))
 bounded_first kind.Scored width = (omega arith, λ x. omega (arith, none_above width x))

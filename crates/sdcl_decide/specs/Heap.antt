@@ -43,4 +43,5 @@ pub record Sinks (start size k : ℕ) (r : ℕ → ℕ) : Type 0 where
 
 -- the same variables stand behind the place `size`
 abbrev pub SameBehind : ℕ → List ℕ → List ℕ → Type 0
-SameBehind size old new = (x : ℕ) → nat_lt size (slice_index new x) ≡ nat_lt size (slice_index old x)
+SameBehind size old new = (x : ℕ)
+    → nat_lt size (slice_index new x) ≡ nat_lt size (slice_index old x)

@@ -1,3 +1,4 @@
 pub mod Heap
 pub mod Queue
 pub mod Deciding
+pub mod Front

@@ -4,6 +4,7 @@
 mod bumping;
 pub mod decider;
 mod heap;
+pub mod laws;
 mod queue;
 #[cfg(test)]
 mod tests;

@@ -5,7 +5,8 @@ use Rattle.sdcl_decide.proofs.bumping.raise_all.Given as goal
 abbrev pub invariant-loop-x : goal.invariant-loop-x
 invariant-loop-x l = record {
   same : l.queue ≡ with_scores l.fn.queue l.queue.scores;
-  rest : raised l.step (drop l.x-index l.vars) l.queue.scores ≡ raised l.step l.vars l.fn.queue.scores;
+  rest : raised l.step (drop l.x-index l.vars) l.queue.scores
+      ≡ raised l.step l.vars l.fn.queue.scores;
   to_come : (j : ℕ) → l.x-index ≤ j → j < length l.vars
       → slice_index l.queue.scores (slice_index l.vars j) ≤ 2 ^ 60;
   high : l.high ≡ is_high l.queue.scores;

@@ -8,12 +8,14 @@ pub rise-requires-clause-order : goal.rise-requires-clause-order
 rise-requires-clause-order c =
     let at = get_or c.args.places.now c.args.var 0 in
     rises_new c.args.last at (rank_at c.args.scores.now c.args.vars.now) _
-    (ranks_exchanged c.args.scores.now c.args.vars.now c.exchange.new.vars at (c.args.last + 1) c.exchange.ensures.vars)
+    (ranks_exchanged c.args.scores.now c.args.vars.now c.exchange.new.vars at
+    (c.args.last + 1) c.exchange.ensures.vars)
     c.requires.behind c.requires.order
 
 pub returns-clause-others : goal.returns-clause-others
 returns-clause-others c =
-    admitted_others c.args.last c.args.var c.args.vars.now c.args.places.now c.exchange.new.places c.rise.new.places
+    admitted_others c.args.last c.args.var c.args.vars.now c.args.places.now c.exchange.new.places
+    c.rise.new.places
     c.requires.linked c.requires.var
     (omega (arith, c.requires.linked.within c.args.var c.requires.var)) c.requires.behind
     c.exchange.ensures.i c.exchange.ensures.j c.exchange.ensures.others c.rise.ensures.same

@@ -13,10 +13,13 @@ loop-at-preserved c =
       low = omega arith;
       high = omega arith;
       order = rises_more c.args.size at (rank_at c.args.scores.now c.loop-at.vars) _
-          (ranks_exchanged c.args.scores.now c.loop-at.vars c.exchange.new.vars at (at / 2) c.exchange.ensures.vars)
+          (ranks_exchanged c.args.scores.now c.loop-at.vars c.exchange.new.vars at
+          (at / 2) c.exchange.ensures.vars)
           c.loop-at.invariant.order (omega arith) high
-          (rank-before c.args.scores.now (get_or c.loop-at.vars at 0) (get_or c.loop-at.vars (at / 2) 0) (sym c.if-is_before.ensures));
-      same = λ x. same-exchange c.args.size at (at / 2) c.loop-at.vars c.loop-at.places c.exchange.new.places
+          (rank-before c.args.scores.now (get_or c.loop-at.vars at 0)
+          (get_or c.loop-at.vars (at / 2) 0) (sym c.if-is_before.ensures));
+      same = λ x. same-exchange c.args.size at
+          (at / 2) c.loop-at.vars c.loop-at.places c.exchange.new.places
           c.loop-at.invariant.linked (omega arith) (omega arith) high (omega arith)
           c.exchange.ensures.i c.exchange.ensures.j c.exchange.ensures.others x
           ∙ c.loop-at.invariant.same x;
@@ -24,5 +27,7 @@ loop-at-preserved c =
 
 pub returns-else-is_before-clause-order : goal.returns-else-is_before-clause-order
 returns-else-is_before-clause-order c =
-    rises_all c.args.size c.loop-at.at (rank_at c.args.scores.now c.loop-at.vars) c.loop-at.invariant.order
-    (λ two. rank-not_before c.args.scores.now (get_or c.loop-at.vars c.loop-at.at 0) (get_or c.loop-at.vars (c.loop-at.at / 2) 0) (sym c.if-is_before.ensures))
+    rises_all c.args.size c.loop-at.at
+    (rank_at c.args.scores.now c.loop-at.vars) c.loop-at.invariant.order
+    (λ two. rank-not_before c.args.scores.now (get_or c.loop-at.vars c.loop-at.at 0)
+    (get_or c.loop-at.vars (c.loop-at.at / 2) 0) (sym c.if-is_before.ensures))

@@ -7,5 +7,6 @@ pub loop-score-preserved : goal.loop-score-preserved
 loop-score-preserved c =
     let l = c.loop-score in
     let within : l.score-index < length l.scores = omega arith in
-    map_over_more (λ (s : ℕ). s / 2 ^ 40) c.args.scores.now l.scores l.score-index (get_or l.scores l.score-index 0)
+    map_over_more (λ (s : ℕ). s / 2 ^ 40) c.args.scores.now l.scores l.score-index
+    (get_or l.scores l.score-index 0)
     c.loop-score-test.true l.invariant (get_or_default l.scores l.score-index 0 _ within)

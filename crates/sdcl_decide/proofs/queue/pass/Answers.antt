@@ -11,13 +11,17 @@ loop-last-preserved c =
       linked = c.sink.ensures.linked;
       within = omega arith;
       order = c.sink.ensures.order;
-      stay = λ x h. passed_stay last c.loop-last.vars c.loop-last.places c.exchange.new.places c.sink.new.places
-          c.loop-last.invariant.linked (omega arith) room c.exchange.ensures.i c.exchange.ensures.j c.exchange.ensures.others
+      stay = λ x h. passed_stay last c.loop-last.vars c.loop-last.places c.exchange.new.places
+          c.sink.new.places
+          c.loop-last.invariant.linked
+          (omega arith) room c.exchange.ensures.i c.exchange.ensures.j c.exchange.ensures.others
           c.sink.ensures.same x (c.loop-last.invariant.stay x h);
       only = λ x left h. ⊎_elim
           (λ is. ap (is_given c.args.trail.now.lits) is ∙ sym c.if-is_assigned.ensures)
           (λ behind. c.loop-last.invariant.only x left behind)
-          (passed_only last c.loop-last.vars c.loop-last.places c.exchange.new.places c.sink.new.places
-          c.loop-last.invariant.linked (omega arith) room c.exchange.ensures.i c.exchange.ensures.j c.exchange.ensures.others
+          (passed_only last c.loop-last.vars c.loop-last.places c.exchange.new.places
+          c.sink.new.places
+          c.loop-last.invariant.linked
+          (omega arith) room c.exchange.ensures.i c.exchange.ensures.j c.exchange.ensures.others
           c.sink.ensures.same x h);
     }

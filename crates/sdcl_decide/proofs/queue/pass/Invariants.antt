@@ -9,8 +9,10 @@ invariant-loop-last l = record {
   linked : AreLinked l.vars l.places;
   within : l.last ≤ l.fn.last;
   order : IsHeapFrom 1 l.last (rank_at l.scores l.vars);
-  stay : (x : ℕ) → nat_lt l.fn.last (slice_index l.fn.places x) ≡ true → nat_lt l.last (slice_index l.places x) ≡ true;
-  only : (x : ℕ) → nat_lt l.fn.last (slice_index l.fn.places x) ≡ false → nat_lt l.last (slice_index l.places x) ≡ true
+  stay : (x : ℕ) → nat_lt l.fn.last (slice_index l.fn.places x) ≡ true
+      → nat_lt l.last (slice_index l.places x) ≡ true;
+  only : (x : ℕ) → nat_lt l.fn.last (slice_index l.fn.places x) ≡ false
+      → nat_lt l.last (slice_index l.places x) ≡ true
       → is_given l.trail.lits x ≡ true;
 }
 

@@ -9,7 +9,8 @@ invariant_of-result c =
     let n = c.args.variables in
     let queue : c.in_ok-queue.queue ≡ unranked n = c.in_ok-queue.ensures in
     let signs : c.in_ok-signs.signs.items ≡ replicate (n + 1) true = search rules in
-    let signed : length c.in_ok-signs.signs.items ≡ n + 1 = ap length signs ∙ length-replicate (n + 1) true in
+    let signed : length c.in_ok-signs.signs.items ≡ n + 1 =
+    ap length signs ∙ length-replicate (n + 1) true in
     rw (queue, c.step_at_start.ensures) (record {
       small = c.requires;
       signed = signed;

@@ -13,7 +13,9 @@ returns-then-at-self c =
       passed = p;
     } in
     let same : SameBehind s.last s.places.items c.rise.new.places =
-    subst (λ (p : List ℕ). SameBehind s.last p c.rise.new.places) c.deref_mut-then-at-self.ensures.value c.rise.ensures.same in
+    subst (λ (p : List ℕ). SameBehind s.last p c.rise.new.places)
+    c.deref_mut-then-at-self.ensures.value c.rise.ensures.same in
     rw (← c.self.view_is)
-    (ap (λ p. made (passed_of s.last p)) (written_back s.places.items c.rise.new.places s.places.len (omega arith))
+    (ap (λ p. made (passed_of s.last p))
+    (written_back s.places.items c.rise.new.places s.places.len (omega arith))
     ∙ ap made (passed_same s.last s.places.items c.rise.new.places (omega arith) same))

@@ -12,7 +12,8 @@ returns c =
     let p = c.pass-self-inside in
     let lits = c.args.trail.now.lits in
     let order : IsHeapFrom 1 p.result (rank_at s.scores.items p.new.vars) =
-    subst (λ (t : List ℕ). IsHeapFrom 1 p.result (rank_at t p.new.vars)) c.deref.ensures.value p.ensures.order in
+    subst (λ (t : List ℕ). IsHeapFrom 1 p.result (rank_at t p.new.vars)) c.deref.ensures.value
+    p.ensures.order in
     let q : IsQueue s.variables p.new.vars p.new.places s.scores.items p.result = record {
       width = omega arith;
       small = c.self.invariant.small;
@@ -21,13 +22,20 @@ returns c =
       within = omega arith;
       order = order;
     } in
-    let stay : (x : ℕ) → nat_lt s.last (slice_index s.places.items x) ≡ true → nat_lt p.result (slice_index p.new.places x) ≡ true =
-    subst (λ (t : List ℕ). (x : ℕ) → nat_lt s.last (slice_index t x) ≡ true → nat_lt p.result (slice_index p.new.places x) ≡ true)
+    let stay : (x : ℕ) → nat_lt s.last (slice_index s.places.items x) ≡ true
+    → nat_lt p.result (slice_index p.new.places x) ≡ true =
+    subst (λ (t : List ℕ). (x : ℕ) → nat_lt s.last (slice_index t x) ≡ true
+    → nat_lt p.result (slice_index p.new.places x) ≡ true)
     c.deref_mut-2.ensures.value p.ensures.stay in
-    let only : (x : ℕ) → nat_lt s.last (slice_index s.places.items x) ≡ false → nat_lt p.result (slice_index p.new.places x) ≡ true → is_given lits x ≡ true =
-    subst (λ (t : List ℕ). (x : ℕ) → nat_lt s.last (slice_index t x) ≡ false → nat_lt p.result (slice_index p.new.places x) ≡ true → is_given lits x ≡ true)
+    let only : (x : ℕ) → nat_lt s.last (slice_index s.places.items x) ≡ false
+    → nat_lt p.result (slice_index p.new.places x) ≡ true → is_given lits x ≡ true =
+    subst (λ (t : List ℕ). (x : ℕ) → nat_lt s.last (slice_index t x) ≡ false
+    → nat_lt p.result (slice_index p.new.places x) ≡ true → is_given lits x ≡ true)
     c.deref_mut-2.ensures.value p.ensures.only in
     rw (← c.self.view_is)
-    (subst (λ (t : List ℕ). Settles lits (ranking_of s.variables s.places.items s.scores.items s.last) (ranking_of s.variables t s.scores.items p.result))
+    (subst (λ (t : List ℕ). Settles lits
+    (ranking_of s.variables s.places.items s.scores.items s.last)
+    (ranking_of s.variables t s.scores.items p.result))
     (sym (written_back s.places.items p.new.places s.places.len (omega arith)))
-    (settles_by s.variables s.last p.result p.new.vars s.places.items p.new.places s.scores.items lits (omega arith) q stay only p.ensures.ready))
+    (settles_by s.variables s.last p.result p.new.vars s.places.items p.new.places s.scores.items
+    lits (omega arith) q stay only p.ensures.ready))
