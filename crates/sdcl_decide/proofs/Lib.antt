@@ -1,4 +1,5 @@
 pub mod Front
+pub mod InStep
 pub mod Links
 pub mod Looking
 pub mod Opening

@@ -2,3 +2,4 @@ pub mod Heap
 pub mod Queue
 pub mod Deciding
 pub mod Front
+pub mod InStep
