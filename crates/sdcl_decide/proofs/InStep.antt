@@ -1,10 +1,8 @@
 -- Rankings in step with a trail.
-use Rattle.std.proofs.Common.{ℕ, ◌≡◌, ◌+◌, ◌<◌, ◌≤◌, Bool, true, false, List, sym, ◌∙◌, ap, ⊎_elim, arith, get_or, set, length, replicate, get_or-set_same, get_or-set_other}
+use Rattle.std.proofs.Common.{ℕ, ◌≡◌, ◌+◌, ◌≤◌, Bool, false, List, sym, ◌∙◌, ap, ⊎_elim, arith, get_or, set, length, replicate, get_or-set_same, get_or-set_other}
 use Rattle.std.proofs.lemmas.Bool.{cases_eq, cases_lt, cases_Bool, false≢true}
 use Rattle.std.proofs.lemmas.List.{get_or-replicate, get_or_past, length-replicate, set_past}
-use Rattle.sdcl_base.specs.Literal.{Clause}
-use Rattle.sdcl_decide.specs.Queue.{Ranking, was_passed, is_given, IsInStep, Settles}
-use Rattle.sdcl_decide.specs.Deciding.{put_back}
+use Rattle.sdcl_decide.specs.Queue.{was_passed}
 use Rattle.sdcl_decide.specs.InStep.{InStepStarts, InStepSettles, InStepPutsBack, InStepTurns}
 
 no_one_passed : (width x : ℕ) → get_or (replicate width false) x false ≡ false

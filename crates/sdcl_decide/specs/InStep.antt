@@ -1,6 +1,6 @@
 -- How a ranking keeps in step with a trail, so that the decision is that of the rule. Each law is
 -- stated for a public function with an empty body.
-use Rattle.std.specs.Prelude.{ℕ, ◌≡◌, Bool, true, false}
+use Rattle.std.specs.Prelude.{ℕ, ◌≡◌, true, false}
 use Rattle.sdcl_base.specs.Literal.{Clause}
 use Rattle.sdcl_decide.specs.Queue.{Ranking, unranked, was_passed, is_given, IsInStep, Settles}
 use Rattle.sdcl_decide.specs.Deciding.{put_back}
