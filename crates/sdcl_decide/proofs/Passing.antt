@@ -3,7 +3,7 @@ use Rattle.std.proofs.Common.{ℕ, ◌≡◌, ◌≢◌, ◌+◌, ◌-◌, ◌<�
 use Rattle.std.proofs.lemmas.Bool.{cases_eq, cases_lt, lt-ltb, le-ltb, ltb-true}
 use Rattle.std.proofs.lemmas.List.{get_or-map, length-map, length-set, same_lists, take_at, set-get_or, get_or-replicate, get_or_past, length-replicate}
 use Rattle.sdcl_decide.specs.Heap.{AreLinked, SameBehind}
-use Rattle.sdcl_decide.specs.Queue.{passed_of, IsInOrder}
+use Rattle.sdcl_decide.specs.Queue.{passed_of, AreAtOwnPlaces}
 
 -- what a slice writes back into its vector
 pub written_back : (xs ws : List ℕ) (n : ℕ) → length ws ≡ n
@@ -52,7 +52,7 @@ passed_at_hand last var ps within at_hand =
     (sym (passed_at last ps var false within ∙ le-ltb last (get_or ps var 0) at_hand))
     ∙ set-get_or (passed_of last ps) var false
 
-pub passed_none : (n last : ℕ) (ps : List ℕ) → n ≡ last + 1 → IsInOrder n ps
+pub passed_none : (n last : ℕ) (ps : List ℕ) → n ≡ last + 1 → AreAtOwnPlaces n ps
     → passed_of last ps ≡ replicate n false
 passed_none n last ps e h =
     same_lists (passed_of last ps) (replicate n false)

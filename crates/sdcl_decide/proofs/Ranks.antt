@@ -3,7 +3,7 @@ use Rattle.std.proofs.Common.{ℕ, zero, suc, ◌≡◌, ◌≢◌, ◌+◌, ◌
 use Rattle.std.proofs.lemmas.Bool.{cases_eq}
 use Rattle.std.proofs.lemmas.Grind.{common_steps}
 use Rattle.std.specs.List.{SwappedAt}
-use Rattle.sdcl_decide.specs.Heap.{comes_before, rank, rank_at, IsHeapFrom, Rises, Sinks}
+use Rattle.sdcl_decide.specs.Heap.{comes_before, rank, rank_at, IsHeapFrom, MayRise, MaySink}
 
 -- ---- the order of the ranks
 
@@ -33,7 +33,7 @@ ranks_exchanged scores vars ws i j h = record {
 
 -- ---- a rank that is too great goes up
 
-rise_others : (size k : ℕ) (r s : ℕ → ℕ) → AreExchanged k (k / 2) r s → Rises size k r → 2 ≤ k
+rise_others : (size k : ℕ) (r s : ℕ → ℕ) → AreExchanged k (k / 2) r s → MayRise size k r → 2 ≤ k
     → r (k / 2) ≤ r k
     → (i : ℕ) → 2 ≤ i → i ≤ size → i ≢ k / 2 → s i ≤ s (i / 2)
 rise_others size k r s e h two less i low high other =
@@ -56,7 +56,7 @@ rise_others size k r s e h two less i low high other =
     (cases_eq (i / 2) k))
     (cases_eq i k)
 
-rise_over : (size k : ℕ) (r s : ℕ → ℕ) → AreExchanged k (k / 2) r s → Rises size k r → 2 ≤ k
+rise_over : (size k : ℕ) (r s : ℕ → ℕ) → AreExchanged k (k / 2) r s → MayRise size k r → 2 ≤ k
     → k ≤ size
     → (i : ℕ) → 2 ≤ k / 2 → i ≤ size → i / 2 ≡ k / 2 → s i ≤ s (k / 2 / 2)
 rise_over size k r s e h two within i low high over =
@@ -72,15 +72,15 @@ rise_over size k r s e h two within i low high over =
     omega (arith, at_i, top, step, old, same))
     (cases_eq i k)
 
-pub rises_more : (size k : ℕ) (r s : ℕ → ℕ) → AreExchanged k (k / 2) r s → Rises size k r → 2 ≤ k
-    → k ≤ size → r (k / 2) ≤ r k → Rises size (k / 2) s
+pub rises_more : (size k : ℕ) (r s : ℕ → ℕ) → AreExchanged k (k / 2) r s → MayRise size k r → 2 ≤ k
+    → k ≤ size → r (k / 2) ≤ r k → MayRise size (k / 2) s
 rises_more size k r s e h two within less = record {
   others = λ i low high other. rise_others size k r s e h two less i low high other;
   over = λ i low high over. rise_over size k r s e h two within i low high over;
 }
 
 -- it is where it belongs at the top, or where the rank over it is as great
-pub rises_all : (size k : ℕ) (r : ℕ → ℕ) → Rises size k r → (2 ≤ k → r k ≤ r (k / 2))
+pub rises_all : (size k : ℕ) (r : ℕ → ℕ) → MayRise size k r → (2 ≤ k → r k ≤ r (k / 2))
     → IsHeapFrom 1 size r
 rises_all size k r h fits i low high over =
     ⊎_elim
@@ -92,7 +92,7 @@ rises_all size k r h fits i low high over =
 
 -- ---- a rank that is too small goes down
 
-sink_others : (start size k c : ℕ) (r s : ℕ → ℕ) → AreExchanged k c r s → Sinks start size k r
+sink_others : (start size k c : ℕ) (r s : ℕ → ℕ) → AreExchanged k c r s → MaySink start size k r
     → c / 2 ≡ k → 2 ≤ c → c ≤ size
     → ((i : ℕ) → i ≤ size → i / 2 ≡ k → r i ≤ r c) → r k ≤ r c
     → (i : ℕ) → 2 ≤ i → i ≤ size → start ≤ i / 2 → i / 2 ≢ c → s i ≤ s (i / 2)
@@ -119,7 +119,7 @@ sink_others start size k c r s e h half c_low c_high first less i low high from 
     (cases_eq i k))
     (cases_eq i c)
 
-sink_over : (start size k c : ℕ) (r s : ℕ → ℕ) → AreExchanged k c r s → Sinks start size k r
+sink_over : (start size k c : ℕ) (r s : ℕ → ℕ) → AreExchanged k c r s → MaySink start size k r
     → c / 2 ≡ k → 2 ≤ c
     → (i : ℕ) → start ≤ c / 2 → i ≤ size → i / 2 ≡ c → s i ≤ s (c / 2)
 sink_over start size k c r s e h half c_low i from high over =
@@ -132,9 +132,9 @@ sink_over start size k c r s e h half c_low i from high over =
     let same : r (i / 2) ≡ r c = ap r over in
     omega (arith, at_i, top, old, same)
 
-pub sinks_more : (start size k c : ℕ) (r s : ℕ → ℕ) → AreExchanged k c r s → Sinks start size k r
+pub sinks_more : (start size k c : ℕ) (r s : ℕ → ℕ) → AreExchanged k c r s → MaySink start size k r
     → c / 2 ≡ k → 2 ≤ c → c ≤ size
-    → ((i : ℕ) → i ≤ size → i / 2 ≡ k → r i ≤ r c) → r k ≤ r c → Sinks start size c s
+    → ((i : ℕ) → i ≤ size → i / 2 ≡ k → r i ≤ r c) → r k ≤ r c → MaySink start size c s
 sinks_more start size k c r s e h half c_low c_high first less = record {
   others = sink_others start size k c r s e h half c_low c_high first less;
   over = λ i low from high over. sink_over start size k c r s e h half c_low i from high over;
@@ -163,7 +163,7 @@ top_greatest size r h i low high = top_within size size r h i low high high
 -- ---- one place more, and one less
 
 pub rises_new : (last at : ℕ) (r s : ℕ → ℕ) → AreExchanged at (last + 1) r s → last < at
-    → IsHeapFrom 1 last r → Rises (last + 1) (last + 1) s
+    → IsHeapFrom 1 last r → MayRise (last + 1) (last + 1) s
 rises_new last at r s e behind h = record {
   others = λ i low high other.
       let at_i : s i ≡ r i = e.others i (λ same. omega (arith, same, other)) other in
@@ -174,7 +174,7 @@ rises_new last at r s e behind h = record {
 }
 
 pub sinks_first : (last : ℕ) (r s : ℕ → ℕ) → AreExchanged 1 last r s → IsHeapFrom 1 last r
-    → Sinks 1 (last - 1) 1 s
+    → MaySink 1 (last - 1) 1 s
 sinks_first last r s e h = record {
   others = λ i low high from other.
       let at_i : s i ≡ r i =

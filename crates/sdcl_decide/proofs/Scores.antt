@@ -8,11 +8,11 @@ use Rattle.std.specs.List.{IsDistinct}
 use Rattle.sdcl_decide.specs.declared.decider.DecideKind.{DecideKind}
 use Rattle.sdcl_decide.specs.declared.decider.DecideKind.TheVariants as kind
 use Rattle.sdcl_decide.specs.Queue.{divided}
-use Rattle.sdcl_decide.specs.Deciding.{is_high, raised, first_step, AreUpTo, IsBounded}
+use Rattle.sdcl_decide.specs.Deciding.{is_high, raised, first_step, AreAtMost, IsBounded}
 
 -- ---- scores that are too great
 
-pub is_high-none : (scores : List ℕ) → AreUpTo (2 ^ 60) scores → is_high scores ≡ false
+pub is_high-none : (scores : List ℕ) → AreAtMost (2 ^ 60) scores → is_high scores ≡ false
 is_high-none [] h = refl
 is_high-none (s ∷ ss) h = rw (le-ltb (2 ^ 60) s (h 0)) (is_high-none ss (λ x. h (suc x)))
 
@@ -59,9 +59,10 @@ to_come_more vars scores i n apart h j later within =
       h j (omega arith) within,
     )
 
-pub AreUpTo-set : (most : ℕ) (scores : List ℕ) (v n : ℕ) → AreUpTo most scores → v < length scores
-    → n ≤ most → AreUpTo most (set scores v n)
-AreUpTo-set most scores v n h within low x =
+pub AreAtMost-set : (most : ℕ) (scores : List ℕ) (v n : ℕ) → AreAtMost most scores
+    → v < length scores
+    → n ≤ most → AreAtMost most (set scores v n)
+AreAtMost-set most scores v n h within low x =
     ⊎_elim
     (λ is. omega
     (arith, ap (λ k. get_or (set scores v n) k 0) is, get_or-set_same scores v n 0 within))
@@ -70,9 +71,9 @@ AreUpTo-set most scores v n h within low x =
 
 -- ---- the division
 
-pub AreUpTo-divided : (scores : List ℕ) → AreUpTo (2 ^ 61) scores
-    → AreUpTo (2 ^ 60) (divided scores)
-AreUpTo-divided scores h x =
+pub AreAtMost-divided : (scores : List ℕ) → AreAtMost (2 ^ 61) scores
+    → AreAtMost (2 ^ 60) (divided scores)
+AreAtMost-divided scores h x =
     ⊎_elim
     (λ within. omega (arith, get_or-map (λ (s : ℕ). s / 2 ^ 40) scores x 0 0 within, h x))
     (λ past. omega (

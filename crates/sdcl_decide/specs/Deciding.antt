@@ -23,8 +23,8 @@ first_step kind.MoveToFront = 0
 first_step kind.Scored = 2 ^ 20
 
 -- each saved sign is true, and nothing was bumped or passed
-abbrev pub fresh : DecideKind → ℕ → Preferences
-fresh rule variables =
+abbrev pub unbumped : DecideKind → ℕ → Preferences
+unbumped rule variables =
     record {
       kind = rule;
       signs = replicate (variables + 1) true;
@@ -129,15 +129,15 @@ abbrev pub AreBehind : ℕ → List ℕ → Type 0
 AreBehind n scores = (x : ℕ) → slice_index scores x ≤ front n x
 
 -- no score is above a number
-abbrev pub AreUpTo : ℕ → List ℕ → Type 0
-AreUpTo most scores = (x : ℕ) → slice_index scores x ≤ most
+abbrev pub AreAtMost : ℕ → List ℕ → Type 0
+AreAtMost most scores = (x : ℕ) → slice_index scores x ≤ most
 
 abbrev pub IsBounded : DecideKind → ℕ → List ℕ → Type 0
 IsBounded kind.Static step scores = ⊤
 IsBounded kind.MoveToFront step scores = (step ≤ 2 ^ 41) × AreBehind step scores
-IsBounded kind.Scored step scores = (step ≤ 2 ^ 60) × AreUpTo (2 ^ 60) scores
+IsBounded kind.Scored step scores = (step ≤ 2 ^ 60) × AreAtMost (2 ^ 60) scores
 
-pub record IsKept (rule : DecideKind) (signs : List Bool) (r : Ranking) (step : ℕ) : Type 0 where
+pub record IsDecider (rule : DecideKind) (signs : List Bool) (r : Ranking) (step : ℕ) : Type 0 where
   pub small : r.variables ≤ MAX_VARIABLE
   pub signed : length signs ≡ r.variables + 1
   pub scored : length r.scores ≡ r.variables + 1

@@ -32,12 +32,12 @@ abbrev pub IsHeapFrom : ℕ → ℕ → (ℕ → ℕ) → Type 0
 IsHeapFrom start size r = (i : ℕ) → 2 ≤ i → i ≤ size → start ≤ i / 2 → r i ≤ r (i / 2)
 
 -- the same of all places up to `size` but for the rank at k, which may be too great
-pub record Rises (size k : ℕ) (r : ℕ → ℕ) : Type 0 where
+pub record MayRise (size k : ℕ) (r : ℕ → ℕ) : Type 0 where
   pub others : (i : ℕ) → 2 ≤ i → i ≤ size → i ≢ k → r i ≤ r (i / 2)
   pub over : (i : ℕ) → 2 ≤ k → i ≤ size → i / 2 ≡ k → r i ≤ r (k / 2)
 
 -- the same but for the rank at k, which may be too small
-pub record Sinks (start size k : ℕ) (r : ℕ → ℕ) : Type 0 where
+pub record MaySink (start size k : ℕ) (r : ℕ → ℕ) : Type 0 where
   pub others : (i : ℕ) → 2 ≤ i → i ≤ size → start ≤ i / 2 → i / 2 ≢ k → r i ≤ r (i / 2)
   pub over : (i : ℕ) → 2 ≤ k → start ≤ k / 2 → i ≤ size → i / 2 ≡ k → r i ≤ r (k / 2)
 

@@ -82,7 +82,7 @@ abbrev pub divided : List ℕ → List ℕ
 divided scores = map (λ s. s / 2 ^ 40) scores
 
 -- the numbers below n, each at its own place
-pub record IsInOrder (n : ℕ) (xs : List ℕ) : Type 0 where
+pub record AreAtOwnPlaces (n : ℕ) (xs : List ℕ) : Type 0 where
   pub width : length xs ≡ n
   pub each : (i : ℕ) → i < n → slice_index xs i ≡ i
 

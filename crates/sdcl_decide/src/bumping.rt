@@ -1,8 +1,14 @@
 //! What a bump does to the scores.
+//!
+//! In Scored the increment grows by a sixteenth with each bump, so that what came late counts most.
+//! Before it could overflow, all is divided by 2 ^ 40: that takes time linear in the number of
+//! variables, and comes after some 450 bumps at the soonest. In MoveToFront the score is the number
+//! of the bump and, behind it, the variable: of one bump the greatest is foremost, whatever the
+//! order in which they are given.
 ghost use Rattle.std.specs.Prelude.{◌≡◌, ◌+◌, ◌^◌, ◌<◌, ◌≤◌, ◌==◌, length, All};
 ghost use Rattle.std.specs.List.{IsDistinct};
 ghost use Rattle.sdcl_decide.specs.Deciding.{next_bump, fronted, raised, with_scores, is_high};
-ghost use Rattle.sdcl_decide.specs.Deciding.{bumped_scores, bumped_step, AreBehind, AreUpTo};
+ghost use Rattle.sdcl_decide.specs.Deciding.{bumped_scores, bumped_step, AreBehind, AreAtMost};
 
 use crate::decider::DecideKind;
 use crate::queue::Queue;
@@ -46,13 +52,13 @@ pub(crate) fn add_to_scores(queue: &mut Queue, step: u64, vars: &[u32]) -> u64
     requires distinct { IsDistinct (λ x y. x == y) vars.now }
     requires width { length queue.old.scores ≡ queue.old.variables + 1 }
     requires step { step ≤ 2 ^ 60 }
-    requires low { AreUpTo (2 ^ 60) queue.old.scores }
+    requires low { AreAtMost (2 ^ 60) queue.old.scores }
     ensures scores { queue.new ≡ with_scores queue.old
         (bumped_scores DecideKind.Scored step vars.now queue.old.scores) }
     ensures step { result ≡ bumped_step DecideKind.Scored step vars.now queue.old.scores }
     ensures width { length queue.new.scores ≡ length queue.old.scores }
     ensures few { result ≤ 2 ^ 60 }
-    ensures low { AreUpTo (2 ^ 60) queue.new.scores }
+    ensures low { AreAtMost (2 ^ 60) queue.new.scores }
 {
     let high = raise_all(queue, step, vars);
     let next = step + step / 16;
@@ -70,11 +76,11 @@ fn raise_all(queue: &mut Queue, step: u64, vars: &[u32]) -> bool
     requires distinct { IsDistinct (λ x y. x == y) vars.now }
     requires width { length queue.old.scores ≡ queue.old.variables + 1 }
     requires step { step ≤ 2 ^ 60 }
-    requires low { AreUpTo (2 ^ 60) queue.old.scores }
+    requires low { AreAtMost (2 ^ 60) queue.old.scores }
     ensures scores { queue.new ≡ with_scores queue.old (raised step vars.now queue.old.scores) }
     ensures high { result ≡ is_high queue.new.scores }
     ensures width { length queue.new.scores ≡ length queue.old.scores }
-    ensures low { AreUpTo (2 ^ 61) queue.new.scores }
+    ensures low { AreAtMost (2 ^ 61) queue.new.scores }
 {
     let mut high = false;
     for x in vars {

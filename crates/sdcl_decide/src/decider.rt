@@ -7,8 +7,8 @@ ghost use Rattle.std.specs.Prelude.{◌≡◌, ◌+◌, ◌<◌, ◌≤◌, ◌=
 ghost use Rattle.std.specs.List.{IsDistinct};
 ghost use Rattle.sdcl_base.specs.declared.lit.TheConstants.{MAX_VARIABLE};
 ghost use Rattle.sdcl_decide.specs.Queue.{IsOpen, NoneOpen, IsInStep, Settles};
-ghost use Rattle.sdcl_decide.specs.Deciding.{fresh, sign_of, saved, with_saved, bumped, IsDecision};
-ghost use Rattle.sdcl_decide.specs.Deciding.{first_step};
+ghost use Rattle.sdcl_decide.specs.Deciding.{unbumped, first_step, sign_of, saved, with_saved};
+ghost use Rattle.sdcl_decide.specs.Deciding.{bumped, IsDecision};
 
 use crate::bumping::{add_to_scores, bring_to_front};
 use crate::queue::Queue;
@@ -40,7 +40,7 @@ pub struct Decider {
 }
 
 impl Model for Decider {
-    ghost use Rattle.sdcl_decide.specs.Deciding.{Preferences, IsKept};
+    ghost use Rattle.sdcl_decide.specs.Deciding.{Preferences, IsDecider};
 
     ghost Value = { Preferences };
 
@@ -51,14 +51,14 @@ impl Model for Decider {
       step = d.step;
     } };
 
-    ghost invariant = { λ d. IsKept d.kind d.signs.items d.queue d.step };
+    ghost invariant = { λ d. IsDecider d.kind d.signs.items d.queue d.step };
 }
 
 impl Decider {
     /// A decider over the variables from 1 to a number. All memory is taken here.
     pub fn new(alloc: Global, kind: DecideKind, variables: u32) -> Result<Decider, NoMemory>
         requires { variables ≤ MAX_VARIABLE }
-        ensures { IfOk result (λ d. d ≡ fresh kind variables) }
+        ensures { IfOk result (λ d. d ≡ unbumped kind variables) }
     {
         let width = variables as usize + 1;
         let signs = vec![in alloc; true; width].map_err(|_| NoMemory)?;

@@ -6,8 +6,8 @@ ghost use Rattle.std.specs.Prelude.{◌≡◌, ◌≢◌, ◌+◌, ◌*◌, ◌/
 ghost use Rattle.std.specs.Prelude.{false, nat_lt};
 ghost use Rattle.std.specs.List.{SwappedAt};
 ghost use Rattle.sdcl_base.specs.declared.lit.TheConstants.{MAX_VARIABLE};
-ghost use Rattle.sdcl_decide.specs.Heap.{comes_before, rank_at, AreLinked, IsHeapFrom, Rises};
-ghost use Rattle.sdcl_decide.specs.Heap.{Sinks, SameBehind};
+ghost use Rattle.sdcl_decide.specs.Heap.{comes_before, rank_at, AreLinked, IsHeapFrom, MayRise};
+ghost use Rattle.sdcl_decide.specs.Heap.{MaySink, SameBehind};
 
 /// Whether a variable comes before another by the scores.
 pub(crate) fn is_before(scores: &[u64], x: u32, y: u32) -> bool
@@ -42,7 +42,7 @@ pub(crate) fn rise(vars: &mut [u32], places: &mut [usize], scores: &[u64], size:
     requires scores { length scores.now ≡ length vars.old }
     requires small { length vars.old ≤ MAX_VARIABLE + 1 }
     requires at { (1 ≤ at) × (at ≤ size) × (size < length vars.old) }
-    requires order { Rises size at (rank_at scores.now vars.old) }
+    requires order { MayRise size at (rank_at scores.now vars.old) }
     ensures linked { AreLinked vars.new places.new }
     ensures order { IsHeapFrom 1 size (rank_at scores.now vars.new) }
     ensures same { SameBehind size places.old places.new }
@@ -104,7 +104,7 @@ pub(crate) fn sink(
     requires scores { length scores.now ≡ length vars.old }
     requires small { length vars.old ≤ MAX_VARIABLE + 1 }
     requires start { (1 ≤ start) × (size < length vars.old) }
-    requires order { Sinks start size start (rank_at scores.now vars.old) }
+    requires order { MaySink start size start (rank_at scores.now vars.old) }
     ensures linked { AreLinked vars.new places.new }
     ensures order { IsHeapFrom start size (rank_at scores.now vars.new) }
     ensures same { SameBehind size places.old places.new }

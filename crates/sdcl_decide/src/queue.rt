@@ -10,7 +10,7 @@ ghost use Rattle.std.specs.Option.{option_map_or};
 ghost use Rattle.sdcl_base.specs.declared.lit.TheConstants.{MAX_VARIABLE};
 ghost use Rattle.sdcl_decide.specs.Heap.{comes_before, rank_at, AreLinked, IsHeapFrom};
 ghost use Rattle.sdcl_decide.specs.Queue.{unranked, divided, is_given, IsOpen, IsFirstOpen};
-ghost use Rattle.sdcl_decide.specs.Queue.{NoneOpen, IsInStep, Settles, IsInOrder};
+ghost use Rattle.sdcl_decide.specs.Queue.{NoneOpen, IsInStep, Settles, AreAtOwnPlaces};
 
 use crate::heap::{admit, arrange, exchange, is_before, rise, sink};
 use sdcl_base::NoMemory;
@@ -160,7 +160,7 @@ fn divide_all(scores: &mut [u64])
 // The variables from 0 to a number, each at its place.
 fn variables_in_order(alloc: Global, greatest: u32) -> Result<Vec<u32>, NoMemory>
     requires { greatest ≤ MAX_VARIABLE }
-    ensures { IfOk result (λ v. IsInOrder (greatest + 1) v.items) }
+    ensures { IfOk result (λ v. AreAtOwnPlaces (greatest + 1) v.items) }
 {
     let mut vars = Vec::with_capacity(alloc, greatest as usize + 1).map_err(|_| NoMemory)?;
     for x in 0..greatest + 1 {
@@ -172,7 +172,7 @@ fn variables_in_order(alloc: Global, greatest: u32) -> Result<Vec<u32>, NoMemory
 // The places below a number, each at its variable.
 fn places_in_order(alloc: Global, width: usize) -> Result<Vec<usize>, NoMemory>
     requires { width ≤ MAX_VARIABLE + 1 }
-    ensures { IfOk result (λ v. IsInOrder width v.items) }
+    ensures { IfOk result (λ v. AreAtOwnPlaces width v.items) }
 {
     let mut places = Vec::with_capacity(alloc, width).map_err(|_| NoMemory)?;
     for x in 0..width {

@@ -7,8 +7,8 @@ pub record Counts : Type 0 where
   pub made : ℕ
 
 -- no clause learned and no reduction made
-abbrev pub fresh : Counts
-fresh = record { since = 0; made = 0 }
+abbrev pub counts_begun : Counts
+counts_begun = record { since = 0; made = 0 }
 
 -- whether 2000 clauses were learned, and 300 more for each reduction made
 abbrev pub is_reduction_due : Counts → Bool

@@ -13,20 +13,20 @@ pub record Course : Type 0 where
   pub slow : ℕ
 
 -- no clause learned and no restart made
-abbrev pub begun : RestartKind → Course
-begun rule = record { kind = rule; since = 0; made = 0; fast = 0; slow = 0 }
+abbrev pub course_begun : RestartKind → Course
+course_begun rule = record { kind = rule; since = 0; made = 0; fast = 0; slow = 0 }
 
 -- the average that gives a part of itself up and takes that part of g
-abbrev pub moved : ℕ → ℕ → ℕ → ℕ
-moved part average g = average - average / part + g / part
+abbrev pub moved_average : ℕ → ℕ → ℕ → ℕ
+moved_average part average g = average - average / part + g / part
 
 -- a clause more is learned, whose glue moves the averages
-abbrev pub with_learned : Course → ℕ → Course
-with_learned c glue =
+abbrev pub with_clause_learned : Course → ℕ → Course
+with_clause_learned c glue =
     record c {
       since = c.since + 1;
-      fast = moved 32 c.fast (glue * 2 ^ 20);
-      slow = moved 4096 c.slow (glue * 2 ^ 20);
+      fast = moved_average 32 c.fast (glue * 2 ^ 20);
+      slow = moved_average 4096 c.slow (glue * 2 ^ 20);
     }
 
 -- never; after 64 times the next term of Luby's sequence; after 50 clauses at least, where four

@@ -1,7 +1,7 @@
 //! Reductions of the learned clauses: the first is due after 2000 learned clauses, and each waits
 //! for 300 more than the one before.
 ghost use Rattle.std.specs.Prelude.{◌≡◌, ◌+◌, ◌<◌};
-ghost use Rattle.sdcl_restart.specs.Reductions.{fresh, is_reduction_due};
+ghost use Rattle.sdcl_restart.specs.Reductions.{counts_begun, is_reduction_due};
 
 use std::marker::Model;
 
@@ -23,7 +23,7 @@ impl Model for Reductions {
 impl Reductions {
     /// No clause learned and no reduction made.
     pub fn new() -> Reductions
-        ensures { result ≡ fresh }
+        ensures { result ≡ counts_begun }
     {
         Reductions { since: 0, made: 0 }
     }

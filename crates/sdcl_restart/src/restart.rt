@@ -4,7 +4,7 @@
 //! (Biere and Froehlich, 2015). The averages are whole numbers in units of 2 ^ -20 and stay below
 //! 2 ^ 52. Each call takes constant time; `due` by Luby takes at most 33 steps.
 ghost use Rattle.std.specs.Prelude.{◌≡◌, ◌+◌, ◌<◌};
-ghost use Rattle.sdcl_restart.specs.Restart.{begun, with_learned, is_restart_due};
+ghost use Rattle.sdcl_restart.specs.Restart.{course_begun, with_clause_learned, is_restart_due};
 
 use crate::luby::luby;
 use std::marker::Model;
@@ -48,7 +48,7 @@ impl Model for Restart {
 impl Restart {
     /// No clause learned and no restart made.
     pub fn new(kind: RestartKind) -> Restart
-        ensures { result ≡ begun kind }
+        ensures { result ≡ course_begun kind }
     {
         Restart {
             kind,
@@ -62,7 +62,7 @@ impl Restart {
     /// A clause of that glue was learned.
     pub fn learned(&mut self, glue: u32)
         requires { self.old.since < 4294967295 }
-        ensures { self.new ≡ with_learned self.old glue }
+        ensures { self.new ≡ with_clause_learned self.old glue }
     {
         let scaled = (glue as u64) * 1_048_576;
         self.since += 1;

@@ -1,7 +1,7 @@
 use Rattle.std.proofs.Common.{◌≡◌, ◌+◌, ◌<◌, ◌≤◌, ◌^◌, ◌||◌, ltb, sym, refl, ap, ◌∙◌, subst, arith, set, get_or, length, drop}
 use Rattle.std.proofs.lemmas.List.{length-set}
-use Rattle.sdcl_decide.specs.Deciding.{raised, with_scores, is_high, AreUpTo}
-use Rattle.sdcl_decide.proofs.Scores.{is_high-none, is_high-set, raised_more, to_come_more, AreUpTo-set}
+use Rattle.sdcl_decide.specs.Deciding.{raised, with_scores, is_high, AreAtMost}
+use Rattle.sdcl_decide.proofs.Scores.{is_high-none, is_high-set, raised_more, to_come_more, AreAtMost-set}
 use Rattle.sdcl_decide.proofs.bumping.raise_all.Goals as goal
 use Rattle.sdcl_decide.proofs.bumping.raise_all.Goals.{then-high, else-high}
 
@@ -44,7 +44,7 @@ loop-x-preserved c =
         | else-high w ↦ w.high-is ∙ ap (λ k. ltb (2 ^ 60) (k + c.args.step)) c.score.ensures
             ∙ sym (total ∙ ap (λ b. b || ltb (2 ^ 60) n) (sym l.invariant.high ∙ w.if-high.false))
       ];
-      low = subst (AreUpTo (2 ^ 61)) (sym scores)
-          (AreUpTo-set (2 ^ 61) s v n l.invariant.low within (omega (arith, here)));
+      low = subst (AreAtMost (2 ^ 61)) (sym scores)
+          (AreAtMost-set (2 ^ 61) s v n l.invariant.low within (omega (arith, here)));
       width = ap length scores ∙ length-set s v n ∙ l.invariant.width;
     }

@@ -1,5 +1,5 @@
 use Rattle.std.proofs.Common.{ℕ, ◌≡◌, ◌≤◌, ◌<◌, ◌^◌, drop, length, slice_index}
-use Rattle.sdcl_decide.specs.Deciding.{raised, with_scores, is_high, AreUpTo}
+use Rattle.sdcl_decide.specs.Deciding.{raised, with_scores, is_high, AreAtMost}
 use Rattle.sdcl_decide.proofs.bumping.raise_all.Given as goal
 
 abbrev pub invariant-loop-x : goal.invariant-loop-x
@@ -10,6 +10,6 @@ invariant-loop-x l = record {
   to_come : (j : ℕ) → l.x-index ≤ j → j < length l.vars
       → slice_index l.queue.scores (slice_index l.vars j) ≤ 2 ^ 60;
   high : l.high ≡ is_high l.queue.scores;
-  low : AreUpTo (2 ^ 61) l.queue.scores;
+  low : AreAtMost (2 ^ 61) l.queue.scores;
   width : length l.queue.scores ≡ length l.fn.queue.scores;
 }
