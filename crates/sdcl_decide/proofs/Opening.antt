@@ -1,10 +1,10 @@
 -- The foremost of the variables at hand.
-use Rattle.std.proofs.Common.{ℕ, ◌≡◌, ◌<◌, ◌≤◌, false, true, List, sym, refl, ap, ◌∙◌, ⊎_elim, arith, get_or, length, ltb}
+use Rattle.std.proofs.Common.{ℕ, ◌≡◌, ◌<◌, ◌≤◌, false, true, List, sym, refl, ap, ◌∙◌, ⊎_elim, arith, get_or, length}
 use Rattle.std.proofs.lemmas.Bool.{cases_eq, cases_lt, cases_Bool, le-ltb, ltb-false, false≢true}
 use Rattle.std.proofs.lemmas.List.{get_or_past}
 use Rattle.sdcl_base.specs.Literal.{Clause}
 use Rattle.sdcl_decide.specs.Heap.{AreLinked, rank, rank_at}
-use Rattle.sdcl_decide.specs.Queue.{Ranking, passed_of, IsQueue, IsFirstOpen, IsInStep, IsForemost, Settles, is_given}
+use Rattle.sdcl_decide.specs.Queue.{Ranking, passed_of, IsQueue, IsFirstOpen, IsInStep, IsForemost, Settles, Passes, is_given}
 use Rattle.sdcl_decide.proofs.Passing.{passed_at, length-passed}
 use Rattle.sdcl_decide.proofs.Ranks.{top_greatest, not_before-rank, rank-not_before, same_rank}
 
@@ -126,19 +126,17 @@ foremost_is_top variables last vars places scores q x f =
 pub settles_by : (variables last after : ℕ) (vars places ns scores : List ℕ) (lits : Clause)
     → length ns ≡ length places
     → IsQueue variables vars ns scores after
-    → ((x : ℕ) → ltb last (get_or places x 0) ≡ true → ltb after (get_or ns x 0) ≡ true)
-    → ((x : ℕ) → ltb last (get_or places x 0) ≡ false → ltb after (get_or ns x 0) ≡ true
-    → is_given lits x ≡ true)
+    → Passes lits last after places ns
     → (1 ≤ after → is_given lits (get_or vars 1 0) ≡ false)
     → Settles lits (ranking_of variables places scores last) (ranking_of variables ns scores after)
-settles_by variables last after vars places ns scores lits e q stay only ready = record {
+settles_by variables last after vars places ns scores lits e q passes ready = record {
   same = refl;
   size = length-passed after ns ∙ e ∙ sym (length-passed last places);
   stay = λ x passed. let within : x < length places = passed_within last x places passed in
       passed_at after ns x false (omega (arith, within, e))
-      ∙ stay x (sym (passed_at last places x false within) ∙ passed);
+      ∙ passes.stay x (sym (passed_at last places x false within) ∙ passed);
   only = λ x left passed. let within : x < length ns = passed_within after x ns passed in
-      only x (sym (passed_at last places x false (omega (arith, within, e))) ∙ left)
+      passes.only x (sym (passed_at last places x false (omega (arith, within, e))) ∙ left)
       (sym (passed_at after ns x false within) ∙ passed);
   ready = λ x f. let top = foremost_is_top variables after vars ns scores q x f in
       ap (is_given lits) top.1 ∙ ready top.0;

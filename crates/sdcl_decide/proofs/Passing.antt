@@ -2,7 +2,7 @@
 use Rattle.std.proofs.Common.{ℕ, ◌≡◌, ◌≢◌, ◌+◌, ◌-◌, ◌<◌, ◌≤◌, Bool, false, true, List, ◌++◌, sym, ap, ◌∙◌, ⊎_elim, inl, inr, ◌⊎◌, arith, get_or, set, take, drop, replicate, length, ltb, get_or-set_same, get_or-set_other}
 use Rattle.std.proofs.lemmas.Bool.{cases_eq, cases_lt, lt-ltb, le-ltb, ltb-true}
 use Rattle.std.proofs.lemmas.List.{get_or-map, length-map, length-set, same_lists, take_at, set-get_or, get_or-replicate, get_or_past, length-replicate}
-use Rattle.sdcl_decide.specs.Heap.{AreLinked, SameBehind}
+use Rattle.sdcl_decide.specs.Heap.{AreLinked, SameBehind, Admits}
 use Rattle.sdcl_decide.specs.Queue.{passed_of, AreAtOwnPlaces}
 
 -- what a slice writes back into its vector
@@ -26,21 +26,19 @@ passed_same size ps qs e h =
     passed_at size qs k d in_q ∙ h k ∙ sym (passed_at size ps k d (omega (arith, in_q, e))))
 
 pub passed_admitted : (last var : ℕ) (ps qs : List ℕ) → length qs ≡ length ps → var < length ps
-    → ltb (last + 1) (get_or qs var 0) ≡ false
-    → ((x : ℕ) → x ≢ var → ltb (last + 1) (get_or qs x 0) ≡ ltb last (get_or ps x 0))
-    → passed_of (last + 1) qs ≡ set (passed_of last ps) var false
-passed_admitted last var ps qs e within back others =
+    → Admits last var ps qs → passed_of (last + 1) qs ≡ set (passed_of last ps) var false
+passed_admitted last var ps qs e within h =
     same_lists (passed_of (last + 1) qs) (set (passed_of last ps) var false)
     (length-passed (last + 1) qs ∙ e ∙ sym (length-passed last ps)
     ∙ sym (length-set (passed_of last ps) var false))
     (λ k d low. let in_q : k < length qs = omega (arith, low, length-passed (last + 1) qs) in
     let in_p : k < length (passed_of last ps) = omega (arith, in_q, e, length-passed last ps) in
     passed_at (last + 1) qs k d in_q ∙ ⊎_elim
-    (λ is. ap (λ n. ltb (last + 1) (get_or qs n 0)) is ∙ back
+    (λ is. ap (λ n. ltb (last + 1) (get_or qs n 0)) is ∙ h.here
     ∙ sym (get_or-set_same (passed_of last ps) var false d
     (omega (arith, within, length-passed last ps)))
     ∙ ap (λ n. get_or (set (passed_of last ps) var false) n d) (sym is))
-    (λ differs. others k differs ∙ sym (passed_at last ps k d (omega (arith, in_q, e)))
+    (λ differs. h.others k differs ∙ sym (passed_at last ps k d (omega (arith, in_q, e)))
     ∙ sym (get_or-set_other (passed_of last ps) var k false d differs))
     (cases_eq k var))
 

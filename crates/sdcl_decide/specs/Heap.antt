@@ -1,6 +1,6 @@
 -- Variables in a heap by their scores. Place 0 belongs to no variable; a place has the places at
 -- twice its number, and one more, below it.
-use Rattle.std.specs.Prelude.{ℕ, ◌≡◌, ◌≢◌, ◌+◌, ◌-◌, ◌*◌, ◌/◌, ◌≤◌, ◌<◌, ◌==◌, Bool, ◌&&◌, ◌||◌, nat_lt, List, length, slice_index}
+use Rattle.std.specs.Prelude.{ℕ, ◌≡◌, ◌≢◌, ◌+◌, ◌-◌, ◌*◌, ◌/◌, ◌≤◌, ◌<◌, ◌==◌, Bool, false, ◌&&◌, ◌||◌, nat_lt, List, length, slice_index}
 use Rattle.sdcl_base.specs.declared.lit.TheConstants.{MAX_VARIABLE}
 
 -- whether x comes before y: its score is greater, or the same, and x is lower
@@ -45,3 +45,9 @@ pub record MaySink (start size k : ℕ) (r : ℕ → ℕ) : Type 0 where
 abbrev pub SameBehind : ℕ → List ℕ → List ℕ → Type 0
 SameBehind size old new = (x : ℕ)
     → nat_lt size (slice_index new x) ≡ nat_lt size (slice_index old x)
+
+-- variable x stands up to place last + 1 now, and the others on the side on which they stood
+pub record Admits (last x : ℕ) (old new : List ℕ) : Type 0 where
+  pub here : nat_lt (last + 1) (slice_index new x) ≡ false
+  pub others : (y : ℕ) → y ≢ x
+      → nat_lt (last + 1) (slice_index new y) ≡ nat_lt last (slice_index old y)

@@ -86,6 +86,13 @@ pub record AreAtOwnPlaces (n : ℕ) (xs : List ℕ) : Type 0 where
   pub width : length xs ≡ n
   pub each : (i : ℕ) → i < n → slice_index xs i ≡ i
 
+-- what stood behind the last place stays behind it, and what has come there has a value
+pub record Passes (lits : Clause) (last after : ℕ) (old new : List ℕ) : Type 0 where
+  pub stay : (x : ℕ) → nat_lt last (slice_index old x) ≡ true
+      → nat_lt after (slice_index new x) ≡ true
+  pub only : (x : ℕ) → nat_lt last (slice_index old x) ≡ false
+      → nat_lt after (slice_index new x) ≡ true → is_given lits x ≡ true
+
 -- whether a variable at a place was passed, at each place
 abbrev pub passed_of : ℕ → List ℕ → List Bool
 passed_of size places = map (λ p. nat_lt size p) places

@@ -8,7 +8,7 @@
 ghost use Rattle.std.specs.Prelude.{◌≡◌, ◌+◌, ◌^◌, ◌<◌, ◌≤◌, ◌==◌, length, All};
 ghost use Rattle.std.specs.List.{IsDistinct};
 ghost use Rattle.sdcl_decide.specs.Deciding.{next_bump, fronted, raised, with_scores, is_high};
-ghost use Rattle.sdcl_decide.specs.Deciding.{bumped_scores, bumped_step, AreBehind, AreAtMost};
+ghost use Rattle.sdcl_decide.specs.Deciding.{bumped_scores, bumped_step, AreAtMost, IsBounded};
 
 use crate::decider::DecideKind;
 use crate::queue::Queue;
@@ -31,13 +31,12 @@ fn following(last: u64) -> u64
 /// Brings variables to the front, and answers the number of this bump.
 pub(crate) fn bring_to_front(queue: &mut Queue, last: u64, vars: &[u32]) -> u64
     requires range { All (λ x. (1 ≤ x) × (x ≤ queue.old.variables)) vars.now }
-    requires last { last ≤ 2 ^ 41 }
-    requires behind { AreBehind last queue.old.scores }
+    requires bounded { IsBounded DecideKind.MoveToFront last queue.old.scores }
     ensures number { result ≡ next_bump last }
     ensures scores { queue.new ≡ with_scores queue.old
         (fronted (next_bump last) vars.now queue.old.scores) }
-    ensures behind { AreBehind result queue.new.scores }
     ensures width { length queue.new.scores ≡ length queue.old.scores }
+    ensures bounded { IsBounded DecideKind.MoveToFront result queue.new.scores }
 {
     let number = following(last);
     for x in vars {
@@ -51,14 +50,12 @@ pub(crate) fn add_to_scores(queue: &mut Queue, step: u64, vars: &[u32]) -> u64
     requires range { All (λ x. (1 ≤ x) × (x ≤ queue.old.variables)) vars.now }
     requires distinct { IsDistinct (λ x y. x == y) vars.now }
     requires width { length queue.old.scores ≡ queue.old.variables + 1 }
-    requires step { step ≤ 2 ^ 60 }
-    requires low { AreAtMost (2 ^ 60) queue.old.scores }
+    requires bounded { IsBounded DecideKind.Scored step queue.old.scores }
     ensures scores { queue.new ≡ with_scores queue.old
         (bumped_scores DecideKind.Scored step vars.now queue.old.scores) }
     ensures step { result ≡ bumped_step DecideKind.Scored step vars.now queue.old.scores }
     ensures width { length queue.new.scores ≡ length queue.old.scores }
-    ensures few { result ≤ 2 ^ 60 }
-    ensures low { AreAtMost (2 ^ 60) queue.new.scores }
+    ensures bounded { IsBounded DecideKind.Scored result queue.new.scores }
 {
     let high = raise_all(queue, step, vars);
     let next = step + step / 16;
@@ -75,8 +72,7 @@ fn raise_all(queue: &mut Queue, step: u64, vars: &[u32]) -> bool
     requires range { All (λ x. (1 ≤ x) × (x ≤ queue.old.variables)) vars.now }
     requires distinct { IsDistinct (λ x y. x == y) vars.now }
     requires width { length queue.old.scores ≡ queue.old.variables + 1 }
-    requires step { step ≤ 2 ^ 60 }
-    requires low { AreAtMost (2 ^ 60) queue.old.scores }
+    requires bounded { IsBounded DecideKind.Scored step queue.old.scores }
     ensures scores { queue.new ≡ with_scores queue.old (raised step vars.now queue.old.scores) }
     ensures high { result ≡ is_high queue.new.scores }
     ensures width { length queue.new.scores ≡ length queue.old.scores }

@@ -3,11 +3,10 @@
 //! The variables stand in one array, and behind the heap's last place stand those that were taken
 //! off. So all variables always stand somewhere, and each change is an exchange of two of them.
 ghost use Rattle.std.specs.Prelude.{◌≡◌, ◌≢◌, ◌+◌, ◌*◌, ◌/◌, ◌<◌, ◌≤◌, ℕ, length, slice_index};
-ghost use Rattle.std.specs.Prelude.{false, nat_lt};
 ghost use Rattle.std.specs.List.{SwappedAt};
 ghost use Rattle.sdcl_base.specs.declared.lit.TheConstants.{MAX_VARIABLE};
 ghost use Rattle.sdcl_decide.specs.Heap.{comes_before, rank_at, AreLinked, IsHeapFrom, MayRise};
-ghost use Rattle.sdcl_decide.specs.Heap.{MaySink, SameBehind};
+ghost use Rattle.sdcl_decide.specs.Heap.{MaySink, SameBehind, Admits};
 
 /// Whether a variable comes before another by the scores.
 pub(crate) fn is_before(scores: &[u64], x: u32, y: u32) -> bool
@@ -64,9 +63,7 @@ pub(crate) fn admit(vars: &mut [u32], places: &mut [usize], scores: &[u64], last
     requires order { IsHeapFrom 1 last (rank_at scores.now vars.old) }
     ensures linked { AreLinked vars.new places.new }
     ensures order { IsHeapFrom 1 (last + 1) (rank_at scores.now vars.new) }
-    ensures var { nat_lt (last + 1) (slice_index places.new var) ≡ false }
-    ensures others { (x : ℕ) → x ≢ var → nat_lt (last + 1) (slice_index places.new x)
-        ≡ nat_lt last (slice_index places.old x) }
+    ensures admits { Admits last var places.old places.new }
 {
     let at = places[var as usize];
     exchange(vars, places, at, last + 1);

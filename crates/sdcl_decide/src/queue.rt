@@ -5,12 +5,13 @@
 //! when the trail gives it up. So the first open variable is at hand, and each call takes time
 //! logarithmic in the number of variables; to pass is paid by what was put back.
 ghost use Rattle.std.specs.Prelude.{◌≡◌, ◌+◌, ◌<◌, ◌≤◌, ℕ, length, slice_index, slice_set};
-ghost use Rattle.std.specs.Prelude.{IfOk, IfNone, IfSome, false, true, nat_lt};
+ghost use Rattle.std.specs.Prelude.{IfOk, IfNone, IfSome, false, true};
 ghost use Rattle.std.specs.Option.{option_map_or};
 ghost use Rattle.sdcl_base.specs.declared.lit.TheConstants.{MAX_VARIABLE};
-ghost use Rattle.sdcl_decide.specs.Heap.{comes_before, rank_at, AreLinked, IsHeapFrom};
+ghost use Rattle.sdcl_decide.specs.Heap.{comes_before};
 ghost use Rattle.sdcl_decide.specs.Queue.{unranked, divided, is_given, IsOpen, IsFirstOpen};
-ghost use Rattle.sdcl_decide.specs.Queue.{NoneOpen, IsInStep, Settles, AreAtOwnPlaces};
+ghost use Rattle.sdcl_decide.specs.Queue.{NoneOpen, IsInStep, IsQueue, Settles, Passes};
+ghost use Rattle.sdcl_decide.specs.Queue.{AreAtOwnPlaces};
 
 use crate::heap::{admit, arrange, exchange, is_before, rise, sink};
 use sdcl_base::NoMemory;
@@ -214,19 +215,10 @@ fn look(scores: &[u64], variables: u32, trail: &Trail) -> Option<u32>
 
 // Takes the top off the heap as long as the trail assigns it, and answers the last place then.
 fn pass(vars: &mut [u32], places: &mut [usize], scores: &[u64], last: usize, trail: &Trail) -> usize
-    requires linked { AreLinked vars.old places.old }
-    requires scores { length scores.now ≡ length vars.old }
-    requires small { length vars.old ≤ MAX_VARIABLE + 1 }
-    requires trail { length vars.old ≡ trail.now.variables + 1 }
-    requires last { last < length vars.old }
-    requires order { IsHeapFrom 1 last (rank_at scores.now vars.old) }
-    ensures linked { AreLinked vars.new places.new }
+    requires { IsQueue trail.now.variables vars.old places.old scores.now last }
+    ensures queue { IsQueue trail.now.variables vars.new places.new scores.now result }
     ensures within { result ≤ last }
-    ensures order { IsHeapFrom 1 result (rank_at scores.now vars.new) }
-    ensures stay { (x : ℕ) → nat_lt last (slice_index places.old x) ≡ true
-        → nat_lt result (slice_index places.new x) ≡ true }
-    ensures only { (x : ℕ) → nat_lt last (slice_index places.old x) ≡ false
-        → nat_lt result (slice_index places.new x) ≡ true → is_given trail.now.lits x ≡ true }
+    ensures passes { Passes trail.now.lits last result places.old places.new }
     ensures ready { 1 ≤ result → is_given trail.now.lits (slice_index vars.new 1) ≡ false }
 {
     let mut last = last;

@@ -9,9 +9,9 @@ pub loop-x-init : goal.loop-x-init
 loop-x-init c = record {
   same = refl;
   rest = refl;
-  to_come = λ j _ _. c.requires.low (get_or c.args.vars.now j 0);
-  high = sym (is_high-none c.args.queue.now.scores c.requires.low);
-  low = λ x. omega (arith, c.requires.low x);
+  to_come = λ j _ _. c.requires.bounded.1 (get_or c.args.vars.now j 0);
+  high = sym (is_high-none c.args.queue.now.scores c.requires.bounded.1);
+  low = λ x. omega (arith, c.requires.bounded.1 x);
   width = refl;
 }
 

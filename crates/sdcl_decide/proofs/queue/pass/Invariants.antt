@@ -1,19 +1,12 @@
-use Rattle.std.proofs.Common.{ℕ, ◌≡◌, ◌≤◌, false, true, slice_index}
-use Rattle.std.specs.Prelude.{nat_lt}
-use Rattle.sdcl_decide.specs.Heap.{rank_at, AreLinked, IsHeapFrom}
-use Rattle.sdcl_decide.specs.Queue.{is_given}
+use Rattle.std.proofs.Common.{◌≤◌}
+use Rattle.sdcl_decide.specs.Queue.{IsQueue, Passes}
 use Rattle.sdcl_decide.proofs.queue.pass.Given as goal
 
 abbrev pub invariant-loop-last : goal.invariant-loop-last
 invariant-loop-last l = record {
-  linked : AreLinked l.vars l.places;
+  queue : IsQueue l.trail.variables l.vars l.places l.scores l.last;
   within : l.last ≤ l.fn.last;
-  order : IsHeapFrom 1 l.last (rank_at l.scores l.vars);
-  stay : (x : ℕ) → nat_lt l.fn.last (slice_index l.fn.places x) ≡ true
-      → nat_lt l.last (slice_index l.places x) ≡ true;
-  only : (x : ℕ) → nat_lt l.fn.last (slice_index l.fn.places x) ≡ false
-      → nat_lt l.last (slice_index l.places x) ≡ true
-      → is_given l.trail.lits x ≡ true;
+  passes : Passes l.trail.lits l.fn.last l.last l.fn.places l.places;
 }
 
 abbrev pub decreases-loop-last : goal.decreases-loop-last
