@@ -111,8 +111,9 @@ abbrev pub bumped_step : DecideKind → ℕ → List ℕ → List ℕ → ℕ
 bumped_step kind.Static step vars scores = step
 bumped_step kind.MoveToFront step vars scores = next_bump step
 bumped_step kind.Scored step vars scores =
-    if is_too_great (grown step) (raised step vars scores) then max
-    (grown step / 2 ^ 40) 1 else grown step
+    if is_too_great (grown step) (raised step vars scores)
+    then max (grown step / 2 ^ 40) 1
+    else grown step
 
 -- what a bump of the variables leaves
 abbrev pub bumped : Preferences → List ℕ → Preferences

@@ -51,8 +51,8 @@ FrontBumps = (variables step : ℕ) (scores order vars rising : List ℕ)
     → AreBehind step scores
     → IsOrderOf variables scores order
     → Rise 1 rising → ((x : ℕ) → In rising x ↔ In vars x) → ((x : ℕ) → In vars x → x ≤ variables)
-    → IsOrderOf variables (bumped_scores kind.MoveToFront step vars scores)
-    (all_to_front rising order)
+    → let after = bumped_scores kind.MoveToFront step vars scores in
+    IsOrderOf variables after (all_to_front rising order)
 
 -- the first open variable by the scores is the first one of the list
 abbrev pub FrontDecides : Type 0

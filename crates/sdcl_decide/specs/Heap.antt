@@ -1,6 +1,6 @@
 -- Variables in a heap by their scores. Place 0 belongs to no variable; a place has the places at
 -- twice its number, and one more, below it.
-use Rattle.std.specs.Prelude.{ℕ, ◌≡◌, ◌≢◌, ◌+◌, ◌-◌, ◌*◌, ◌/◌, ◌≤◌, ◌<◌, ◌==◌, Bool, false, ◌&&◌, ◌||◌, nat_lt, List, length, slice_index}
+use Rattle.std.specs.Prelude.{ℕ, ◌≡◌, ◌≢◌, ◌+◌, ◌-◌, ◌*◌, ◌/◌, ◌^◌, ◌≤◌, ◌<◌, ◌==◌, Bool, false, ◌&&◌, ◌||◌, nat_lt, List, length, slice_index}
 use Rattle.sdcl_base.specs.declared.lit.TheConstants.{MAX_VARIABLE}
 
 -- whether x comes before y: its score is greater, or the same, and x is lower
@@ -11,7 +11,7 @@ comes_before scores x y =
 
 -- the same as a number, which is greater for what comes before
 abbrev pub rank : List ℕ → ℕ → ℕ
-rank scores x = slice_index scores x * 4194304 + (MAX_VARIABLE - x)
+rank scores x = slice_index scores x * 2 ^ 22 + (MAX_VARIABLE - x)
 
 -- the rank of the variable at a place
 abbrev pub rank_at : List ℕ → List ℕ → ℕ → ℕ

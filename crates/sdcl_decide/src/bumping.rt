@@ -2,7 +2,7 @@
 //!
 //! In Scored the increment grows by a sixteenth with each bump, so that what came late counts most.
 //! Before it could overflow, all is divided by 2 ^ 40: that takes time linear in the number of
-//! variables, and comes after some 450 bumps at the soonest. In MoveToFront the score is the number
+//! variables, and comes after some 400 bumps at the soonest. In MoveToFront the score is the number
 //! of the bump and, behind it, the variable: of one bump the greatest is foremost, whatever the
 //! order in which they are given.
 ghost use Rattle.std.specs.Prelude.{◌≡◌, ◌+◌, ◌^◌, ◌<◌, ◌≤◌, ◌==◌, length, All};
@@ -11,7 +11,7 @@ ghost use Rattle.sdcl_decide.specs.Deciding.{next_bump, fronted, raised, with_sc
 ghost use Rattle.sdcl_decide.specs.Deciding.{bumped_scores, bumped_step, AreAtMost, IsBounded};
 
 use crate::decider::DecideKind;
-use crate::queue::Queue;
+use crate::queue::{DIVISOR, Queue};
 
 /// The number at which those of bumps stand still. No run has so many bumps: each comes with a
 /// clause that is learned.
@@ -61,7 +61,7 @@ pub(crate) fn add_to_scores(queue: &mut Queue, step: u64, vars: &[u32]) -> u64
     let next = step + step / 16;
     if high || next > LIMIT {
         queue.divide();
-        (next / 1_099_511_627_776).max(1)
+        (next / DIVISOR).max(1)
     } else {
         next
     }

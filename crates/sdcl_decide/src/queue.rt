@@ -19,6 +19,9 @@ use sdcl_trail::Trail;
 use std::alloc::Global;
 use std::marker::Model;
 
+/// What scores that are too great are divided by: 2 to the 40th.
+pub(crate) const DIVISOR: u64 = 1_099_511_627_776;
+
 /// The variables from 1 to a number, each with a score.
 #[derive(Drop)]
 pub(crate) struct Queue {
@@ -154,7 +157,7 @@ fn divide_all(scores: &mut [u64])
     ensures { scores.new ≡ divided scores.old }
 {
     for score in scores.iter_mut() {
-        *score /= 1_099_511_627_776;
+        *score /= DIVISOR;
     }
 }
 
