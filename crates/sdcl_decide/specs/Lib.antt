@@ -1,0 +1,5 @@
+pub mod Heap
+pub mod Queue
+pub mod Deciding
+pub mod Front
+pub mod InStep
