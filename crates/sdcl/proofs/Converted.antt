@@ -26,7 +26,7 @@ use Rattle.sdcl.specs.declared.refusal.Refusal.TheVariants.{Usage, Memory, At}
 use Rattle.sdcl.specs.Commands.{Names}
 use Rattle.sdcl.specs.Loading.{Loads, IsLoaded, FormulaReadOut}
 use Rattle.sdcl.specs.Judging.{Judges, JudgedAs}
-use Rattle.sdcl.specs.Admitting.{Admits, IsAdmitted, AreProofSteps}
+use Rattle.sdcl.specs.Admitting.{AdmitsProof, IsAdmitted, AreProofSteps}
 use Rattle.sdcl.specs.Rewriting.{Rewrites, HoldsFirst, HoldsWhole, converted_out}
 use Rattle.sdcl.specs.Starting.{IsFresh, MadeNothing}
 use Rattle.sdcl.specs.Meaning.{KeepsRest, IsMade, OnlyMade, Performs, IsShown, OutputRefuses, Refused}
@@ -72,9 +72,9 @@ calm_both p h k = calm_after h p.read.later k
 -- ---- a proof that is not verified
 
 pub rejected : {names : Names} {name : List ℕ} {loaded : Loaded} {k : ℕ} {s0 s1 s2 : Seen} {q : Result Loaded Refusal} {u : Result Kept Refusal} → IsFresh s0 → q ≡ Ok loaded → u ≡ Ok (kept.NotVerified k)
-    → Loads names.formula s0 s1 q → Admits names.proof loaded.variables (clauses_in loaded.store) s1 s2 u → Performs (converting names name) s0 s2 (Ok (verdict.NotVerified k))
+    → Loads names.formula s0 s1 q → AdmitsProof names.proof loaded.variables (clauses_in loaded.store) s1 s2 u → Performs (converting names name) s0 s2 (Ok (verdict.NotVerified k))
 rejected {names} {name} {loaded} {k} {s0} {s1} {s2} {q} {u} fresh d b h a =
-    let admits : Admits names.proof loaded.variables (clauses_in loaded.store) s1 s2 (Ok (kept.NotVerified k)) = subst (Admits names.proof loaded.variables (clauses_in loaded.store) s1 s2) b a in
+    let admits : AdmitsProof names.proof loaded.variables (clauses_in loaded.store) s1 s2 (Ok (kept.NotVerified k)) = subst (AdmitsProof names.proof loaded.variables (clauses_in loaded.store) s1 s2) b a in
     let judges : Judges Pr names.proof (clauses_in loaded.store) s1 s2 (Ok (found.NotVerified k)) = record { only = admits.only; calm = admits.calm; ok = admits.ok.judged; err = tt } in
     let p : Performs (checking_in Pr names) s0 s2 (Ok (verdict.NotVerified k)) = judged {dialect = Pr} {names = names} {loaded = loaded} {v = found.NotVerified k} fresh d refl h judges in
     let read : Loads names.formula s0 s1 (Ok loaded) = subst (Loads names.formula s0 s1) d h in
@@ -90,17 +90,17 @@ rejected {names} {name} {loaded} {k} {s0} {s1} {s2} {q} {u} fresh d b h a =
 
 -- ---- the phases
 
-phases : {names : Names} {loaded : Loaded} {l : Kept} {s0 s1 s2 : Seen} → IsFresh s0 → Loads names.formula s0 s1 (Ok loaded) → Admits names.proof loaded.variables (clauses_in loaded.store) s1 s2 (Ok l)
+phases : {names : Names} {loaded : Loaded} {l : Kept} {s0 s1 s2 : Seen} → IsFresh s0 → Loads names.formula s0 s1 (Ok loaded) → AdmitsProof names.proof loaded.variables (clauses_in loaded.store) s1 s2 (Ok l)
     → Phases names loaded.variables (clauses_in loaded.store) s0 s1 s2 l
 phases fresh h a = record { fresh = fresh; read = h.only; read_out = h.read_out; stands = h.stands; loaded = h.ok; only = a.only; admitted = a.ok }
 
 -- ---- too many variables
 
 pub needs_more : {names : Names} {name : List ℕ} {loaded : Loaded} {m : ℕ} {s0 s1 s2 : Seen} {q : Result Loaded Refusal} {u : Result Kept Refusal} → IsFresh s0 → q ≡ Ok loaded → u ≡ Ok (kept.TooManyVariables m)
-    → Loads names.formula s0 s1 q → Admits names.proof loaded.variables (clauses_in loaded.store) s1 s2 u → Performs (converting names name) s0 s2 (Err (At place.Proof (trouble.Variables m)))
+    → Loads names.formula s0 s1 q → AdmitsProof names.proof loaded.variables (clauses_in loaded.store) s1 s2 u → Performs (converting names name) s0 s2 (Err (At place.Proof (trouble.Variables m)))
 unfolding proof_of phases
 needs_more {names} {name} {loaded} {m} {s0} {s1} {s2} {q} {u} fresh d b h a =
-    let admits : Admits names.proof loaded.variables (clauses_in loaded.store) s1 s2 (Ok (kept.TooManyVariables m)) = subst (Admits names.proof loaded.variables (clauses_in loaded.store) s1 s2) b a in
+    let admits : AdmitsProof names.proof loaded.variables (clauses_in loaded.store) s1 s2 (Ok (kept.TooManyVariables m)) = subst (AdmitsProof names.proof loaded.variables (clauses_in loaded.store) s1 s2) b a in
     let read : Loads names.formula s0 s1 (Ok loaded) = subst (Loads names.formula s0 s1) d h in
     let p : Phases names loaded.variables (clauses_in loaded.store) s0 s1 s2 (kept.TooManyVariables m) = phases fresh read admits in
     let proof : IsProofOf names s0 = proof_of refl p in
@@ -158,9 +158,9 @@ leaves {names} {name} {s0} {s2} {s3} {p} c e fresh o (inr h) = inr (record { con
 
 -- the output could not be made or written
 pub unwritten : {names : Names} {name : List ℕ} {loaded : Loaded} {p : Proven} {e : Refusal} {s0 s1 s2 s3 : Seen} {q : Result Loaded Refusal} {u : Result Kept Refusal} {r : Result Converted Refusal} → IsFresh s0 → q ≡ Ok loaded
-    → u ≡ Ok (kept.Valid p) → r ≡ Err e → Loads names.formula s0 s1 q → Admits names.proof loaded.variables (clauses_in loaded.store) s1 s2 u → Rewrites name p s2 s3 r → Performs (converting names name) s0 s3 (Err e)
+    → u ≡ Ok (kept.Valid p) → r ≡ Err e → Loads names.formula s0 s1 q → AdmitsProof names.proof loaded.variables (clauses_in loaded.store) s1 s2 u → Rewrites name p s2 s3 r → Performs (converting names name) s0 s3 (Err e)
 unwritten {names} {name} {loaded} {p} {e} {s0} {s1} {s2} {s3} {q} {u} {r} fresh d b x h a w =
-    let admits : Admits names.proof loaded.variables (clauses_in loaded.store) s1 s2 (Ok (kept.Valid p)) = subst (Admits names.proof loaded.variables (clauses_in loaded.store) s1 s2) b a in
+    let admits : AdmitsProof names.proof loaded.variables (clauses_in loaded.store) s1 s2 (Ok (kept.Valid p)) = subst (AdmitsProof names.proof loaded.variables (clauses_in loaded.store) s1 s2) b a in
     let read : Loads names.formula s0 s1 (Ok loaded) = subst (Loads names.formula s0 s1) d h in
     let writes : Rewrites name p s2 s3 (Err e) = subst (Rewrites name p s2 s3) x w in
     let ph : Phases names loaded.variables (clauses_in loaded.store) s0 s1 s2 (kept.Valid p) = phases fresh read admits in
@@ -180,11 +180,11 @@ unwritten {names} {name} {loaded} {p} {e} {s0} {s1} {s2} {s3} {q} {u} {r} fresh 
 
 -- the converted proof was written
 pub written : {names : Names} {name : List ℕ} {loaded : Loaded} {p : Proven} {counts : Converted} {s0 s1 s2 s3 : Seen} {q : Result Loaded Refusal} {u : Result Kept Refusal} {r : Result Converted Refusal} → IsFresh s0
-    → (name ≡ names.formula → ⊥) → q ≡ Ok loaded → u ≡ Ok (kept.Valid p) → r ≡ Ok counts → Loads names.formula s0 s1 q → Admits names.proof loaded.variables (clauses_in loaded.store) s1 s2 u → Rewrites name p s2 s3 r
+    → (name ≡ names.formula → ⊥) → q ≡ Ok loaded → u ≡ Ok (kept.Valid p) → r ≡ Ok counts → Loads names.formula s0 s1 q → AdmitsProof names.proof loaded.variables (clauses_in loaded.store) s1 s2 u → Rewrites name p s2 s3 r
     → Performs (converting names name) s0 s3 (Ok (verdict.Converted counts.steps counts.lines counts.new_variables))
 unfolding convertible proof_of
 written {names} {name} {loaded} {p} {counts} {s0} {s1} {s2} {s3} {q} {u} {r} fresh differ d b x h a w =
-    let admits : Admits names.proof loaded.variables (clauses_in loaded.store) s1 s2 (Ok (kept.Valid p)) = subst (Admits names.proof loaded.variables (clauses_in loaded.store) s1 s2) b a in
+    let admits : AdmitsProof names.proof loaded.variables (clauses_in loaded.store) s1 s2 (Ok (kept.Valid p)) = subst (AdmitsProof names.proof loaded.variables (clauses_in loaded.store) s1 s2) b a in
     let read : Loads names.formula s0 s1 (Ok loaded) = subst (Loads names.formula s0 s1) d h in
     let writes : Rewrites name p s2 s3 (Ok counts) = subst (Rewrites name p s2 s3) x w in
     let ph : Phases names loaded.variables (clauses_in loaded.store) s0 s1 s2 (kept.Valid p) = phases fresh read admits in

@@ -26,7 +26,7 @@ use Rattle.sdcl.specs.Meaning.{IsMade, Performs}
 use Rattle.sdcl.specs.Commands.{Names, SolveNames, Plan, Solve, Check, Drat, Convert}
 use Rattle.sdcl.specs.Loading.{StandsFor, IsAccepted, IsSoundFormula, FormulaReadOut, formula_in}
 use Rattle.sdcl.specs.Judging.{JudgedAs, IsReadTo, judgement, judgement_in, steps_of}
-use Rattle.sdcl.specs.Proving.{AreMade, IsProofMade, ProofTells, JournalTells, StopsBefore, StopsWithin, WritesPath, WritesRun, outputs_of}
+use Rattle.sdcl.specs.Proving.{AreMade, IsProofMade, ProofTells, JournalTells, EndsBefore, EndsWithin, WritesPath, WritesRun, outputs_of}
 use Rattle.sdcl.specs.Solving.{HasBegun, HoldsPath, IsSolved, solving}
 use Rattle.sdcl.specs.Checking.{IsJudgedAs, IsSoundProof, IsVerified, IsChecked, checking_in, proof_in}
 use Rattle.sdcl.specs.Admitting.{AreProofSteps, until_empty}
@@ -120,12 +120,12 @@ proof_stays proof t u ss torn w h asked = steps_stay t u ss torn w.later.tells (
 journal_stays : (journal : Bool) (t u : Seen) (es : List Event) (torn : Option Event) → OnlyStreams t u → JournalTells journal t es torn → JournalTells journal u es torn
 journal_stays journal t u es torn w h asked = events_stay t u es torn w.later.tells (journal_same w) (h asked)
 
-within_stays : (proof journal : Bool) (t u : Seen) (done more : List Event) → OnlyStreams t u → StopsWithin proof journal t done more → StopsWithin proof journal u done more
+within_stays : (proof journal : Bool) (t u : Seen) (done more : List Event) → OnlyStreams t u → EndsWithin proof journal t done more → EndsWithin proof journal u done more
 within_stays proof journal t u done [] w h = h
 within_stays proof journal t u done (e ∷ es) w h =
     (proof_stays proof t u (steps done ++ event_steps e) None w h.0, elim h.1 [ inl a ↦ inl (journal_stays journal t u done None w a) | inr a ↦ inr (journal_stays journal t u done (Some e) w a) ])
 
-before_stays : (proof journal : Bool) (t u : Seen) (done more : List Event) → OnlyStreams t u → StopsBefore proof journal t done more → StopsBefore proof journal u done more
+before_stays : (proof journal : Bool) (t u : Seen) (done more : List Event) → OnlyStreams t u → EndsBefore proof journal t done more → EndsBefore proof journal u done more
 before_stays proof journal t u done more w h = record {
   torn = h.torn;
   next = h.next;

@@ -7,12 +7,12 @@ use Rattle.sdcl_io.specs.Step.{Step}
 use Rattle.sdcl_io.specs.Telling.{IsTold}
 use Rattle.sdcl_journal.specs.Machine.{Rules, Event, steps}
 use Rattle.sdcl_journal.specs.RunOutputs.{IsRunOutput, FailsAt, faults_of}
-use Rattle.sdcl_outer.specs.Coursing.{Stops as StopsTold, StopsBefore as ToldBefore, StopsWithin as ToldWithin}
+use Rattle.sdcl_outer.specs.Coursing.{Stops, StopsWithin}
 use Rattle.sdcl_outer.specs.Running.{StopsOnPath}
 use Rattle.sdcl.specs.declared.refusal.Place.{Place}
 use Rattle.sdcl.specs.declared.refusal.Trouble.TheVariants as trouble
 use Rattle.sdcl.specs.Creating.{WriteFailed, place_for}
-use Rattle.sdcl.specs.Proving.{ProofTells, JournalTells, StopsBefore, StopsWithin, WritesPath}
+use Rattle.sdcl.specs.Proving.{ProofTells, JournalTells, EndsWithin, WritesPath}
 
 -- in the world that a lent one has become
 pub in_world : {X : Type 0} (P : Seen → Type 0) (seen : X → Seen) (w v : X) → P (seen v) → w ≡ v → P (seen w)
@@ -26,7 +26,7 @@ pub record Shows (S : Type 0) (tells : S → List Step → Option Step → Type 
   pub journal_shows : (es : List Event) (torn : Option Event) → te new es torn → JournalTells journal t es torn
 
 within : (S : Type 0) (tells : S → List Step → Option Step → Type 0) (te : S → List Event → Option Event → Type 0) (old new : S) (proof journal : Bool) (t : Seen) (done more : List Event) → Shows S tells te old new proof journal t
-    → ToldWithin tells te old new done more → StopsWithin proof journal t done more
+    → StopsWithin tells te old new done more → EndsWithin proof journal t done more
 within S tells te old new proof journal t done [] k h = h
 within S tells te old new proof journal t done (e ∷ es) k h = (
   k.proof_shows _ None (h.0 [] k.no_step),
@@ -34,7 +34,7 @@ within S tells te old new proof journal t done (e ∷ es) k h = (
 )
 
 pub path_written : {S : Type 0} {tells : S → List Step → Option Step → Type 0} {te : S → List Event → Option Event → Type 0} {old new : S} {proof journal : Bool} {t : Seen} {r : Rules} {f : List Clause}
-    → StopsOnPath (StopsTold tells te old new) r f → Shows S tells te old new proof journal t → WritesPath proof journal r f t
+    → StopsOnPath (Stops tells te old new) r f → Shows S tells te old new proof journal t → WritesPath proof journal r f t
 path_written {S} {tells} {te} {old} {new} {proof} {journal} {t} {r} {f} h k =
     let p = h.stopped in
     record {

@@ -36,18 +36,18 @@ abbrev pub journal_in : List ℕ → Option (List ℕ)
 journal_in word = behind (codes "--journal=") word
 
 -- whether there is such a name, and it is this one
-abbrev pub is_name : Option (List ℕ) → List ℕ → Bool
-is_name None name = false
-is_name (Some own) name = bytes_eq own name
+abbrev pub has_name : Option (List ℕ) → List ℕ → Bool
+has_name None name = false
+has_name (Some own) name = bytes_eq own name
 
 -- whether there are two such names, and they are the same
 abbrev pub is_same : Option (List ℕ) → Option (List ℕ) → Bool
 is_same a None = false
-is_same a (Some name) = is_name a name
+is_same a (Some name) = has_name a name
 
 -- whether the proof has another name than the formula, and the journal another one than both
 abbrev pub are_apart : List ℕ → Option (List ℕ) → Option (List ℕ) → Bool
-are_apart f p j = not (is_name p f) && (not (is_name j f) && not (is_same j p))
+are_apart f p j = not (has_name p f) && (not (has_name j f) && not (is_same j p))
 
 -- a solving, where the names differ
 abbrev pub solve_plan : List ℕ → Option (List ℕ) → Option (List ℕ) → Option Plan

@@ -69,16 +69,16 @@ abbrev pub JournalTells : Bool → Seen → List Event → Option Event → Type
 JournalTells journal t es torn = IsTrue journal → HoldsEvents Journal t es torn
 
 -- these events and their steps are told whole, and perhaps a part of the next event's step
-pub record StopsBefore (proof journal : Bool) (t : Seen) (done more : List Event) : Type 0 where
+pub record EndsBefore (proof journal : Bool) (t : Seen) (done more : List Event) : Type 0 where
   pub torn : Option Step
   pub next : IfSome torn (IsStepOfNext more)
   pub journal_tells : JournalTells journal t done None
   pub proof_tells : ProofTells proof t (steps done) torn
 
 -- these events and their steps are told whole, and the next event's step, and perhaps a part of that event
-abbrev pub StopsWithin : Bool → Bool → Seen → List Event → List Event → Type 0
-StopsWithin proof journal t done [] = ⊥
-StopsWithin proof journal t done (e ∷ es) =
+abbrev pub EndsWithin : Bool → Bool → Seen → List Event → List Event → Type 0
+EndsWithin proof journal t done [] = ⊥
+EndsWithin proof journal t done (e ∷ es) =
     ProofTells proof t (steps done ++ event_steps e) None × (JournalTells journal t done None ⊎ JournalTells journal t done (Some e))
 
 -- what is written is the first of the events of a path, and of their steps
@@ -89,7 +89,7 @@ pub record WritesPath (proof journal : Bool) (r : Rules) (f : List Clause) (t : 
   pub done : List Event
   pub more : List Event
   pub parts : events ≡ done ++ more
-  pub stops : StopsBefore proof journal t done more ⊎ StopsWithin proof journal t done more
+  pub stops : EndsBefore proof journal t done more ⊎ EndsWithin proof journal t done more
 
 -- what is written is a run, whole, that bears the answer out
 pub record WritesRun (proof journal : Bool) (r : Rules) (f : List Clause) (t : Seen) (answer : Answer) : Type 0 where

@@ -150,20 +150,20 @@ fn solving<'w>(
 fn are_apart(formula: &str, proof: Option<&str>, journal: Option<&str>) -> bool
     ensures { result ≡ spec.are_apart formula.now (text_of_name proof.entry) (text_of_name journal.entry) }
 {
-    !is_name(proof, formula) && !is_name(journal, formula) && !is_same(journal, proof)
+    !has_name(proof, formula) && !has_name(journal, formula) && !is_same(journal, proof)
 }
 
 fn is_same(a: Option<&str>, b: Option<&str>) -> bool
     ensures { result ≡ spec.is_same (text_of_name a.entry) (text_of_name b.entry) }
 {
     match b {
-        Some(name) => is_name(a, name),
+        Some(name) => has_name(a, name),
         None => false,
     }
 }
 
-fn is_name(own: Option<&str>, name: &str) -> bool
-    ensures { result ≡ spec.is_name (text_of_name own.entry) name.now }
+fn has_name(own: Option<&str>, name: &str) -> bool
+    ensures { result ≡ spec.has_name (text_of_name own.entry) name.now }
 {
     match own {
         Some(own) => own == name,

@@ -9,8 +9,8 @@ use Rattle.sdcl_journal.specs.RunOutputs.{HoldsEvents, RunOnward, FailsAt, journ
 
 -- ---- what is written, one write after another
 
-pub onward_itself : (outs : OutRole → Type 0) (s : Seen) → RunOnward outs s s
-onward_itself outs s = record {
+pub run_itself : (outs : OutRole → Type 0) (s : Seen) → RunOnward outs s s
+run_itself outs s = record {
   only = record {
     files = λ n d. refl;
     inputs = λ r d. refl;
@@ -36,8 +36,8 @@ later_on s t u h k = record {
   calm = λ c. k.calm (h.calm c);
 }
 
-pub onward_on : (outs : OutRole → Type 0) (s t u : Seen) → RunOnward outs s t → RunOnward outs t u → RunOnward outs s u
-onward_on outs s t u h k = record {
+pub run_on : (outs : OutRole → Type 0) (s t u : Seen) → RunOnward outs s t → RunOnward outs t u → RunOnward outs s u
+run_on outs s t u h k = record {
   only = record {
     files = λ n d. k.only.files n (λ r o e. d r o (sym (h.only.names r) ∙ e)) ∙ h.only.files n d;
     inputs = λ i d. k.only.inputs i (λ r n o a b. d r n o (sym (h.only.stand i) ∙ a) (sym (h.only.names r) ∙ b)) ∙ h.only.inputs i d;

@@ -50,7 +50,7 @@ impl<'w, W: World> RunFiles<'w, W> {
 impl<W: World> ProofOut for RunFiles<'_, W> {
     ghost use Rattle.sdcl_proof.specs.Files.{HoldsSteps};
     ghost use Rattle.sdcl_journal.specs.RunOutputs.{IsRunOutput, RunOnward, FailsAt, faults_of, journal_aside};
-    ghost use Rattle.sdcl_journal.specs.Onward.{onward_itself, onward_on, fails_itself, fails_on};
+    ghost use Rattle.sdcl_journal.specs.Onward.{run_itself, run_on, fails_itself, fails_on};
 
     ghost tells = { λ s steps torn. IsTrue s.proof
         → HoldsSteps output.Proof (W.seen s.world.now) steps torn };
@@ -75,7 +75,7 @@ impl<W: World> ProofOut for RunFiles<'_, W> {
       refl,
       refl,
       refl,
-      onward_itself (IsRunOutput s.proof s.journal) (W.seen s.world.now),
+      run_itself (IsRunOutput s.proof s.journal) (W.seen s.world.now),
       fails_itself (IsRunOutput s.proof s.journal) (W.seen s.world.now) s.failed,
       W.follows_itself s.world.now,
     ) };
@@ -84,7 +84,7 @@ impl<W: World> ProofOut for RunFiles<'_, W> {
       k.0 ∙ h.0,
       k.1 ∙ h.1,
       k.2 ∙ h.2,
-      onward_on (IsRunOutput s.proof s.journal) (W.seen s.world.now) (W.seen t.world.now)
+      run_on (IsRunOutput s.proof s.journal) (W.seen s.world.now) (W.seen t.world.now)
           (W.seen u.world.now) h.3 (rw (h.1, h.2) at k.3),
       fails_on (IsRunOutput s.proof s.journal) (W.seen s.world.now) (W.seen t.world.now)
           (W.seen u.world.now) s.failed t.failed u.failed h.3.only.later (rw (h.1, h.2) at k.3).only.later

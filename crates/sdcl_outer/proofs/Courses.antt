@@ -27,7 +27,7 @@ use Rattle.sdcl_inner.proofs.Refuted.{clause_new as blocked_new}
 use Rattle.sdcl_witness.specs.Witnesses.{Pair}
 use Rattle.sdcl_journal.specs.Machine.{Rules, RunState, Event, Decide, NoWitness, InnerSpent, Learn, LearnWitness, Back, Empty, Model, Unknown, Done, Back_due, database, reached, is_refuted, in_range, covers, current_reduct, may_search, MayTry, Allowed, after, after_all, PathFrom}
 use Rattle.sdcl_outer.specs.Attempts.{IsWitness, reduct_here}
-use Rattle.sdcl_outer.specs.Coursing.{Matches, Leads, MayFollow, AreFormed, IsFormedEvent, attempt_at, tries_at, FindsWitness, FindsNothing, TriesNothing}
+use Rattle.sdcl_outer.specs.Coursing.{Matches, Leads, MayFollow, AreFormedEvents, IsFormedEvent, attempt_at, tries_at, FindsWitness, FindsNothing, TriesNothing}
 use Rattle.sdcl_outer.proofs.Following.{Searches, JoinsRun, Returns, closed_searches, after_decide, after_no_witness, after_inner_spent, after_learn, after_learn_witness, after_back}
 use Rattle.sdcl_outer.proofs.Guards.{may_try, decide_allowed, model_allowed, not_covered}
 
@@ -63,13 +63,13 @@ pub path_none : (r : Rules) (m : RunState) → PathFrom r m []
 unfolding PathFrom
 path_none r m = tt
 
-pub formed_append : (n : ℕ) (xs ys : List Event) → AreFormed n xs → AreFormed n ys → AreFormed n (xs ++ ys)
-unfolding AreFormed
+pub formed_append : (n : ℕ) (xs ys : List Event) → AreFormedEvents n xs → AreFormedEvents n ys → AreFormedEvents n (xs ++ ys)
+unfolding AreFormedEvents
 formed_append n [] ys h k = k
 formed_append n (x ∷ xs) ys h k = (h.0, formed_append n xs ys h.1 k)
 
-pub formed_front : (n : ℕ) (xs ys : List Event) → AreFormed n (xs ++ ys) → AreFormed n xs
-unfolding AreFormed
+pub formed_front : (n : ℕ) (xs ys : List Event) → AreFormedEvents n (xs ++ ys) → AreFormedEvents n xs
+unfolding AreFormedEvents
 formed_front n [] ys h = tt
 formed_front n (x ∷ xs) ys h = (h.0, formed_front n xs ys h.1)
 
@@ -98,16 +98,16 @@ unfolding PathFrom after_all
 path_split r m [] e p = (tt, p.0)
 path_split r m (x ∷ es) e p = let q = path_split r (after m x) es e p.1 in ((p.0, q.0), q.1)
 
-pub formed_none : (n : ℕ) → AreFormed n []
-unfolding AreFormed
+pub formed_none : (n : ℕ) → AreFormedEvents n []
+unfolding AreFormedEvents
 formed_none n = tt
 
-pub formed_one : (n : ℕ) (e : Event) → IsFormedEvent n e → AreFormed n (e ∷ [])
-unfolding AreFormed
+pub formed_one : (n : ℕ) (e : Event) → IsFormedEvent n e → AreFormedEvents n (e ∷ [])
+unfolding AreFormedEvents
 formed_one n e h = (h, tt)
 
-pub formed_two : (n : ℕ) (d e : Event) → IsFormedEvent n d → IsFormedEvent n e → AreFormed n (d ∷ e ∷ [])
-unfolding AreFormed
+pub formed_two : (n : ℕ) (d e : Event) → IsFormedEvent n d → IsFormedEvent n e → AreFormedEvents n (d ∷ e ∷ [])
+unfolding AreFormedEvents
 formed_two n d e h k = (h, (k, tt))
 
 -- ---- what is known of the search is known of the machine
@@ -400,13 +400,13 @@ attempt_follows r s l es c i j n (inl e) m k h b = subst (PathFrom r m) (sym e) 
 attempt_follows r s l es c i j n (inr (inl q)) m k h b = subst (PathFrom r m) (sym q.1) (path_none r m)
 attempt_follows r s l es c i j n (inr (inr q)) m k h b = (nothing_found r m s k es h c q.0 (open_at r (lits_of s.trail) l i j n) q.1).0
 
-nothing_formed : (r : Rules) (s : State) (n : ℕ) (es : List Event) → FindsNothing r s es → AreFormed n es
-nothing_formed r s n es (inl q) = subst (AreFormed n) (sym q.0) (formed_one n NoWitness tt)
-nothing_formed r s n es (inr q) = subst (AreFormed n) (sym q.0) (formed_one n (InnerSpent (length (lits_of s.trail))) tt)
+nothing_formed : (r : Rules) (s : State) (n : ℕ) (es : List Event) → FindsNothing r s es → AreFormedEvents n es
+nothing_formed r s n es (inl q) = subst (AreFormedEvents n) (sym q.0) (formed_one n NoWitness tt)
+nothing_formed r s n es (inr q) = subst (AreFormedEvents n) (sym q.0) (formed_one n (InnerSpent (length (lits_of s.trail))) tt)
 
-pub attempt_formed : (r : Rules) (s : State) (n : ℕ) (es : List Event) → (es ≡ []) ⊎ TriesNothing r s es → AreFormed n es
-attempt_formed r s n es (inl e) = subst (AreFormed n) (sym e) (formed_none n)
-attempt_formed r s n es (inr (inl q)) = subst (AreFormed n) (sym q.1) (formed_none n)
+pub attempt_formed : (r : Rules) (s : State) (n : ℕ) (es : List Event) → (es ≡ []) ⊎ TriesNothing r s es → AreFormedEvents n es
+attempt_formed r s n es (inl e) = subst (AreFormedEvents n) (sym e) (formed_none n)
+attempt_formed r s n es (inr (inl q)) = subst (AreFormedEvents n) (sym q.1) (formed_none n)
 attempt_formed r s n es (inr (inr q)) = nothing_formed r s n es q.1
 
 pub found_same : (r : Rules) (s u : State) (out : Pair) → s.slots ≡ u.slots → s.trail ≡ u.trail → FindsWitness r s out → FindsWitness r u out

@@ -12,10 +12,10 @@ use Rattle.sdcl_io.specs.Step.{Step, Add, All, End, Verified, adds_empty, apply,
 use Rattle.sdcl_io.proofs.Judging.{valid_verified}
 use Rattle.sdcl_journal.specs.Machine.{Rules, RunState, Event, Empty, Model, Unknown, database, start, may_search, Allowed, after, after_all, PathFrom, Path, Run, event_steps, steps}
 use Rattle.sdcl_journal.proofs.PathSteps.{path_valid}
-use Rattle.sdcl_outer.specs.Coursing.{AreFormed}
+use Rattle.sdcl_outer.specs.Coursing.{AreFormedEvents}
 use Rattle.sdcl_outer.specs.Outcome.{NewSteps, IsDueAt, is_addition, Ends}
 use Rattle.sdcl_outer.specs.Running.{AreLawful}
-use Rattle.sdcl_outer.specs.Turning.{EndsWith, IsRight}
+use Rattle.sdcl_outer.specs.Turning.{EndsIn, IsRight}
 use Rattle.sdcl_outer.specs.declared.solving.Answer.{Answer}
 use Rattle.sdcl_outer.specs.declared.solving.Answer.TheVariants as answer
 use Rattle.sdcl_outer.proofs.Following.{state_grows}
@@ -25,7 +25,7 @@ use Rattle.sdcl_outer.proofs.Stepping.{Stepped, stepped, Joined, joined}
 
 -- ---- of a path
 
-pub lawful_path : (r : Rules) (f : List Clause) (es : List Event) → Path r f es → AreFormed r.variables es → AreLawful r f (steps es)
+pub lawful_path : (r : Rules) (f : List Clause) (es : List Event) → Path r f es → AreFormedEvents r.variables es → AreLawful r f (steps es)
 unfolding Path
 lawful_path r f es p w =
     let h : Stepped r (f ++ []) 0 es = stepped r (start f) es (omega arith) p w in
@@ -44,13 +44,13 @@ steps_end es e = steps_append es (e ∷ []) ∙ ap (λ xs. steps es ++ xs) (appe
 any_there : (ss : List Step) → list_any adds_empty (ss ++ Add [] ∷ []) ≡ true
 any_there ss = list_any-append adds_empty ss (Add [] ∷ []) ∙ or_right (list_any adds_empty ss) true refl
 
-front_joined : (r : Rules) (f : List Clause) (es earlier : List Event) (e : Event) → Path r f es → AreFormed r.variables es → es ≡ earlier ++ e ∷ []
+front_joined : (r : Rules) (f : List Clause) (es earlier : List Event) (e : Event) → Path r f es → AreFormedEvents r.variables es → es ≡ earlier ++ e ∷ []
     → ((m : RunState) → Allowed r m e → may_search m.turn ≡ true) → Joined f (database (after_all (start f) earlier)) 0 (after_all (start f) earlier).learned_count (steps earlier)
 unfolding Path
 front_joined r f es earlier e p w q t =
     let a = path_split r (start f) earlier e (subst (PathFrom r (start f)) q p) in
     let h : Joined (f ++ []) (database (after_all (start f) earlier)) 0 (after_all (start f) earlier).learned_count (steps earlier) =
-    joined r (start f) earlier a.0 (formed_front r.variables earlier (e ∷ []) (subst (AreFormed r.variables) q w)) (t (after_all (start f) earlier) a.1) in
+    joined r (start f) earlier a.0 (formed_front r.variables earlier (e ∷ []) (subst (AreFormedEvents r.variables) q w)) (t (after_all (start f) earlier) a.1) in
     subst (λ x. Joined x (database (after_all (start f) earlier)) 0 (after_all (start f) earlier).learned_count (steps earlier)) (append-nil f) h
 
 last_allowed : (r : Rules) (f : List Clause) (es earlier : List Event) (e : Event) → Path r f es → es ≡ earlier ++ e ∷ [] → Allowed r (after_all (start f) earlier) e
@@ -72,7 +72,7 @@ spent_unknown r m a = a.1
 meets_less : (v : ℕ → Bool) (f cs g : List Clause) → g ≡ f ++ cs → meets v g ≡ true → meets v f ≡ true
 meets_less v f cs g e m = all_from (meets_clause v) f (λ d i. all_in (meets_clause v) g d m (subst (λ (x : List Clause). In x d) (sym e) (in_append_left f cs d i)))
 
-pub ends_from : (r : Rules) (f cs g : List Clause) (k : ℕ) (es : List Event) (a : Answer) → Path r f es → AreFormed r.variables es → g ≡ f ++ cs → database (after_all (start f) es) ≡ g → IsRight r g k es a
+pub ends_from : (r : Rules) (f cs g : List Clause) (k : ℕ) (es : List Event) (a : Answer) → Path r f es → AreFormedEvents r.variables es → g ≡ f ++ cs → database (after_all (start f) es) ≡ g → IsRight r g k es a
     → Ends r f (steps es) a
 ends_from r f cs g k es (answer.Model a) p w j d h = (h.1, meets_less (truth_of a) f cs g j h.2, h.3)
 ends_from r f cs g k es answer.Refuted p w j d h =

@@ -9,10 +9,10 @@ use Rattle.sdcl_store.proofs.Slots.{live_append}
 use Rattle.sdcl_trail.specs.Levels.{decisions}
 use Rattle.sdcl_inner.specs.Searching.{State, Begins}
 use Rattle.sdcl_journal.specs.Machine.{Rules, RunState, Event, Done, database, start, after_all, PathFrom, Path, Run}
-use Rattle.sdcl_outer.specs.Coursing.{IsToldAll, Stops, Matches, AreFormed}
+use Rattle.sdcl_outer.specs.Coursing.{IsToldAll, Stops, Matches, AreFormedEvents}
 use Rattle.sdcl_outer.specs.Outcome.{IsCleanOver}
 use Rattle.sdcl_outer.specs.Running.{EndsAs, Runs, StopsOnPath}
-use Rattle.sdcl_outer.specs.Turning.{EndsWith, IsRight, Closes, Gains, TurnFails}
+use Rattle.sdcl_outer.specs.Turning.{EndsIn, IsRight, Closes, Gains, TurnFails}
 use Rattle.sdcl_outer.specs.declared.solving.Answer.{Answer}
 use Rattle.sdcl_outer.specs.declared.solving.Answer.TheVariants as answer
 use Rattle.sdcl_outer.proofs.Courses.{path_append, after_append, formed_append, formed_none}
@@ -52,7 +52,7 @@ start_matches slots n s b = record {
 -- ---- the end
 
 pub stopped_on : {S : Type 0} (tells : S → List Step → Option Step → Type 0) (te : S → List Event → Option Event → Type 0) (old mid new : S) (r : Rules) (f : List Clause) (xs : List Event) (s : State) (k : ℕ)
-    → IsToldAll tells te old mid xs → Path r f xs → AreFormed r.variables xs → Matches (after_all (start f) xs) s.slots (decisions s.trail) k false → TurnFails (Stops tells te mid new) r s k
+    → IsToldAll tells te old mid xs → Path r f xs → AreFormedEvents r.variables xs → Matches (after_all (start f) xs) s.slots (decisions s.trail) k false → TurnFails (Stops tells te mid new) r s k
     → StopsOnPath (Stops tells te old new) r f
 stopped_on tells te old mid new r f xs s k t p w m h =
     let path = path_on r f xs h.events p (h.follows (after_all (start f) xs) m) in
@@ -75,7 +75,7 @@ unfolding Run
 run_of r f es p d = (p, d)
 
 pub run_closed : {S : Type 0} (tells : S → List Step → Option Step → Type 0) (te : S → List Event → Option Event → Type 0) (old mid new : S) (r : Rules) (f cs : List Clause) (xs : List Event) (s : State) (k : ℕ) (a : Answer)
-    → IsToldAll tells te old mid xs → Path r f xs → AreFormed r.variables xs → Matches (after_all (start f) xs) s.slots (decisions s.trail) k false → live s.slots ≡ f ++ cs
+    → IsToldAll tells te old mid xs → Path r f xs → AreFormedEvents r.variables xs → Matches (after_all (start f) xs) s.slots (decisions s.trail) k false → live s.slots ≡ f ++ cs
     → Closes (IsToldAll tells te mid new) r s k a → Runs (IsToldAll tells te old new) r f a
 run_closed tells te old mid new r f cs xs s k a t p w m j h =
     let q = h.path (after_all (start f) xs) m in

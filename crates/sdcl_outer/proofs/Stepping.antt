@@ -10,7 +10,7 @@ use Rattle.sdcl_io.specs.Step.{Step, Add, AddWitness, Delete, All, End, Verified
 use Rattle.sdcl_io.proofs.Judging.{valid_verified}
 use Rattle.sdcl_journal.specs.Machine.{Rules, RunState, Turn, Event, Decide, NoWitness, InnerSpent, Learn, LearnWitness, Back, Forget, Empty, Model, Unknown, Done, Back_due, database, start, may_search, may_forget, Allowed, after, after_all, PathFrom, Path, event_steps, steps}
 use Rattle.sdcl_journal.proofs.PathSteps.{path_valid}
-use Rattle.sdcl_outer.specs.Coursing.{AreFormed, IsFormedEvent}
+use Rattle.sdcl_outer.specs.Coursing.{AreFormedEvents, IsFormedEvent}
 use Rattle.sdcl_outer.specs.Outcome.{IsCleanOver, IsNewClause, AddsNew, NewSteps, is_addition, learned_in}
 use Rattle.sdcl_outer.proofs.Following.{after_decide, after_no_witness, after_inner_spent, after_learn, after_learn_witness, after_back}
 use Rattle.sdcl_outer.proofs.Courses.{done_empty, done_model, done_unknown}
@@ -92,8 +92,8 @@ ended_empty r m n es b t p =
     let q : Add [] ∷ steps es ≡ Add [] ∷ [] = ap (λ xs. Add [] ∷ steps xs) (done_rest r n es t p) in
     record { new = subst (NewSteps r.variables (database m)) (sym q) (tt, tt); affordable = subst (λ ss. m.learned_count + learned_in ss ≤ r.budget) (sym q) (omega (arith, b)) }
 
-pub stepped : (r : Rules) (m : RunState) (es : List Event) → m.learned_count ≤ r.budget → PathFrom r m es → AreFormed r.variables es → Stepped r (database m) m.learned_count es
-unfolding PathFrom AreFormed Allowed steps NewSteps
+pub stepped : (r : Rules) (m : RunState) (es : List Event) → m.learned_count ≤ r.budget → PathFrom r m es → AreFormedEvents r.variables es → Stepped r (database m) m.learned_count es
+unfolding PathFrom AreFormedEvents Allowed steps NewSteps
 stepped r m [] b p w = record { new = tt; affordable = omega (arith, b) }
 stepped r m (Decide l ∷ es) b p w =
     let a = after_decide m l p.0.turn in
@@ -157,9 +157,9 @@ shut : (r : Rules) (m n : RunState) (es : List Event) → n.turn ≡ Done → Pa
 unfolding after_all
 shut r m n es t p h = not_done (after_all n es).turn h (ap (λ xs. (after_all n xs).turn) (done_rest r n es t p) ∙ t)
 
-pub joined : (r : Rules) (m : RunState) (es : List Event) → PathFrom r m es → AreFormed r.variables es → may_search (after_all m es).turn ≡ true
+pub joined : (r : Rules) (m : RunState) (es : List Event) → PathFrom r m es → AreFormedEvents r.variables es → may_search (after_all m es).turn ≡ true
     → Joined (database m) (database (after_all m es)) m.learned_count (after_all m es).learned_count (steps es)
-unfolding PathFrom AreFormed Allowed steps after_all apply_all
+unfolding PathFrom AreFormedEvents Allowed steps after_all apply_all
 joined r m [] p w h = record { applied = refl; counted = omega arith; adds = refl; solid = refl }
 joined r m (Decide l ∷ es) p w h =
     let a = after_decide m l p.0.turn in

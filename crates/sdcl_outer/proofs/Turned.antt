@@ -10,14 +10,14 @@ use Rattle.sdcl_journal.specs.Machine.{Rules, RunState, Event, Done, database, P
 use Rattle.sdcl_outer.specs.Coursing.{Matches, IsToldAll, Stops, Fails}
 use Rattle.sdcl_outer.specs.Descending.{GoesDown}
 use Rattle.sdcl_outer.specs.Outcome.{IsCleanOver}
-use Rattle.sdcl_outer.specs.Turning.{EndsWith, IsRight, Closes, Gains, Turns, TurnFails}
+use Rattle.sdcl_outer.specs.Turning.{EndsIn, IsRight, Closes, Gains, Turns, TurnFails}
 use Rattle.sdcl_outer.specs.declared.descending.Bottom.{Bottom}
 use Rattle.sdcl_outer.specs.declared.solving.Answer.{Answer}
 use Rattle.sdcl_outer.specs.declared.solving.Answer.TheVariants as answer
 use Rattle.sdcl_outer.proofs.Courses.{path_append, after_append, formed_append, leads_on}
 use Rattle.sdcl_outer.proofs.Telling.{all_on, stops_on}
 
-ends_on : (xs ys : List Event) (e : Event) → EndsWith ys e → EndsWith (xs ++ ys) e
+ends_on : (xs ys : List Event) (e : Event) → EndsIn ys e → EndsIn (xs ++ ys) e
 ends_on xs ys e h = (xs ++ h.0, ap (λ zs. xs ++ zs) h.1 ∙ sym (append_assoc xs h.0 (e ∷ [])))
 
 pub right_on : (r : Rules) (f g : List Clause) (k : ℕ) (xs ys : List Event) (a : Answer) → g ≡ f → IsRight r g k ys a → IsRight r f k (xs ++ ys) a

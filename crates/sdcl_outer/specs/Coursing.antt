@@ -60,9 +60,9 @@ IsFormedEvent n Empty = ⊤
 IsFormedEvent n Model = ⊤
 IsFormedEvent n Unknown = ⊤
 
-unfoldable pub AreFormed : ℕ → List Event → Type 0
-AreFormed n [] = ⊤
-AreFormed n (e ∷ es) = IsFormedEvent n e × AreFormed n es
+unfoldable pub AreFormedEvents : ℕ → List Event → Type 0
+AreFormedEvents n [] = ⊤
+AreFormedEvents n (e ∷ es) = IsFormedEvent n e × AreFormedEvents n es
 
 -- ---- where the machine stands
 
@@ -122,10 +122,10 @@ TriesNothing r s es =
     ⊎ ((tries_at r (length (decisions s.trail)) ≡ true) × FindsNothing r s es)
 
 -- an attempt, where one is due, found the witness, or it told that it found nothing
-abbrev pub Tries : (List Event → Type 0) → Rules → State → Pair → Bool → Type 0
-Tries told r s out true =
+abbrev pub TriesHere : (List Event → Type 0) → Rules → State → Pair → Bool → Type 0
+TriesHere told r s out true =
     told [] × (tries_at r (length (decisions s.trail)) ≡ true) × HasModel (reduct_here r.mode (live s.slots) s.trail) × IsWitness (live s.slots) s.trail out
-Tries told r s out false = (es : List Event) × told es × TriesNothing r s es
+TriesHere told r s out false = (es : List Event) × told es × TriesNothing r s es
 
 -- the sink failed at what an attempt tells, or before it
 abbrev pub TryFails : (List Event → Type 0) → Rules → State → Type 0
@@ -136,7 +136,7 @@ pub record Fails (stops : List Event → Type 0) (r : Rules) (s : State) (n : �
   pub events : List Event
   pub stopped : stops events
   pub follows : MayFollow r s n events
-  pub formed : AreFormed r.variables events
+  pub formed : AreFormedEvents r.variables events
 
 -- the clause is learned, with the witness unless it is empty
 abbrev pub learning : Clause → Clause → Event

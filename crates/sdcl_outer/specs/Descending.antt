@@ -8,7 +8,7 @@ use Rattle.sdcl_prop.specs.Seeing.{CompleteOver}
 use Rattle.sdcl_inner.specs.Searching.{State, IsInOrder}
 use Rattle.sdcl_witness.specs.Witnesses.{Pair}
 use Rattle.sdcl_journal.specs.Machine.{Rules, Event}
-use Rattle.sdcl_outer.specs.Coursing.{Leads, AreFormed, FindsWitness}
+use Rattle.sdcl_outer.specs.Coursing.{Leads, AreFormedEvents, FindsWitness}
 use Rattle.sdcl_outer.specs.declared.descending.Bottom.{Bottom}
 use Rattle.sdcl_outer.specs.declared.descending.Bottom.TheVariants as bottom
 
@@ -27,7 +27,7 @@ pub record GoesDown (told : List Event → Type 0) (r : Rules) (s t : State) (ou
   pub events : List Event
   pub are_told : told events
   pub leads : Leads r s t 0 events
-  pub formed : AreFormed r.variables events
+  pub formed : AreFormedEvents r.variables events
   pub ready : IsInOrder t
   pub slots_same : t.slots ≡ s.slots
   pub variables_same : t.variables ≡ s.variables

@@ -5,7 +5,7 @@ use Rattle.sdcl_trail.specs.Levels.{Levels, lits_of, decisions}
 use Rattle.sdcl_prop.specs.Seeing.{CompleteOver}
 use Rattle.sdcl_inner.specs.Searching.{State, state_of, IsInOrder, Propagates, Decides}
 use Rattle.sdcl_journal.specs.Machine.{Rules, Event, Decide, covers}
-use Rattle.sdcl_outer.specs.Coursing.{IsToldAll, Stops, Leads, MayFollow, AreFormed, Tries, TryFails, TriesNothing, FindsWitness}
+use Rattle.sdcl_outer.specs.Coursing.{IsToldAll, Stops, Leads, MayFollow, AreFormedEvents, TriesHere, TryFails, TriesNothing, FindsWitness}
 use Rattle.sdcl_outer.specs.Errors.{rules_of}
 use Rattle.sdcl_outer.proofs.Courses.{leads_none, leads_on, leads_same, follows_on, formed_none, formed_one, formed_append, tried_leads, tried_follows, attempt_follows, attempt_formed, open_at, found_same}
 use Rattle.sdcl_outer.proofs.Telling.{all_nothing, all_on, stops_on, refused}
@@ -102,9 +102,9 @@ returns-then-found-clause-goes g c =
     let t : w.trail ≡ u.trail = c.try_here.ensures.trail in
     let z : w.slots ≡ u.slots = ap (λ x. x.slots) c.try_here.ensures.clauses in
     let out = c.try_here.new.witness in
-    let f : Tries (IsToldAll tells te c.descending.sink c.try_here.new.sink) r u out true =
-    subst (λ n. Tries (IsToldAll tells te c.descending.sink c.try_here.new.sink) (rules_of n c.args.options.now) u out true) e
-    (subst (Tries (IsToldAll tells te c.descending.sink c.try_here.new.sink) (rules_of u.variables c.args.options.now) u out) c.if-found.true c.in_ok-found.ensures.tries) in
+    let f : TriesHere (IsToldAll tells te c.descending.sink c.try_here.new.sink) r u out true =
+    subst (λ n. TriesHere (IsToldAll tells te c.descending.sink c.try_here.new.sink) (rules_of n c.args.options.now) u out true) e
+    (subst (TriesHere (IsToldAll tells te c.descending.sink c.try_here.new.sink) (rules_of u.variables c.args.options.now) u out) c.if-found.true c.in_ok-found.ensures.tries) in
     let found : FindsWitness r u out = record { due = f.1; open_here = open_at r (lits_of u.trail) c.in-Some.decision d.0 (omega (arith, d.1, e)) d.2; model = f.2; witness = f.3 } in
     let told : IsToldAll tells te c.args.sink.now c.try_here.new.sink (inv.events ++ []) = all_on tells te c.args.sink.now c.descending.sink c.try_here.new.sink inv.events [] inv.told f.0 in
     record {
@@ -135,9 +135,9 @@ returns-in_err-record-clause-err g c =
     let l = c.in-Some.decision in
     let d : (1 ≤ l.var) × (l.var ≤ u.variables) × (names (lits_of u.trail) l ≡ false) = c.in-Some.ensures in
     let out = c.try_here.new.witness in
-    let f : Tries (IsToldAll tells te c.descending.sink c.try_here.new.sink) r u out false =
-    subst (λ n. Tries (IsToldAll tells te c.descending.sink c.try_here.new.sink) (rules_of n c.args.options.now) u out false) e
-    (subst (Tries (IsToldAll tells te c.descending.sink c.try_here.new.sink) (rules_of u.variables c.args.options.now) u out) c.if-found.false c.in_ok-found.ensures.tries) in
+    let f : TriesHere (IsToldAll tells te c.descending.sink c.try_here.new.sink) r u out false =
+    subst (λ n. TriesHere (IsToldAll tells te c.descending.sink c.try_here.new.sink) (rules_of n c.args.options.now) u out false) e
+    (subst (TriesHere (IsToldAll tells te c.descending.sink c.try_here.new.sink) (rules_of u.variables c.args.options.now) u out) c.if-found.false c.in_ok-found.ensures.tries) in
     refused c.from_residual-in_err-record.result (record {
       events = inv.events ++ (f.0 ++ Decide l ∷ []);
       stopped = stops_on tells te c.args.sink.now c.descending.sink c.record.new.sink inv.events (f.0 ++ Decide l ∷ []) inv.told
@@ -166,9 +166,9 @@ descending-preserved g c =
     let t : w.trail ≡ u.trail = c.try_here.ensures.trail in
     let z : w.slots ≡ u.slots = ap (λ x. x.slots) c.try_here.ensures.clauses in
     let out = c.try_here.new.witness in
-    let f : Tries (IsToldAll tells te c.descending.sink c.try_here.new.sink) r u out false =
-    subst (λ n. Tries (IsToldAll tells te c.descending.sink c.try_here.new.sink) (rules_of n c.args.options.now) u out false) e
-    (subst (Tries (IsToldAll tells te c.descending.sink c.try_here.new.sink) (rules_of u.variables c.args.options.now) u out) c.if-found.false c.in_ok-found.ensures.tries) in
+    let f : TriesHere (IsToldAll tells te c.descending.sink c.try_here.new.sink) r u out false =
+    subst (λ n. TriesHere (IsToldAll tells te c.descending.sink c.try_here.new.sink) (rules_of n c.args.options.now) u out false) e
+    (subst (TriesHere (IsToldAll tells te c.descending.sink c.try_here.new.sink) (rules_of u.variables c.args.options.now) u out) c.if-found.false c.in_ok-found.ensures.tries) in
     let k : Decides w v l = c.decide.ensures.decides in
     record {
       ready = k.ready;

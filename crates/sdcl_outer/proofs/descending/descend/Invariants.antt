@@ -1,7 +1,7 @@
 use Rattle.std.proofs.Common.{◌≡◌, ◌≤◌, ◌+◌, ◌-◌, List, length}
 use Rattle.sdcl_inner.specs.Searching.{state_of, IsInOrder}
 use Rattle.sdcl_journal.specs.Machine.{Event}
-use Rattle.sdcl_outer.specs.Coursing.{IsToldAll, Leads, AreFormed}
+use Rattle.sdcl_outer.specs.Coursing.{IsToldAll, Leads, AreFormedEvents}
 use Rattle.sdcl_outer.specs.Errors.{rules_of}
 use Rattle.sdcl_outer.proofs.descending.descend.Given as goal
 
@@ -17,7 +17,7 @@ invariant-descending g l = record {
   events : List Event;
   told : IsToldAll g.S.ProofOut.tells g.S.JournalOut.tells_events l.fn.sink l.sink events;
   leads : Leads (rules_of l.fn.search.variables l.options) (state_of (λ s. s.slots) l.fn.search) (state_of (λ s. s.slots) l.search) 0 events;
-  formed : AreFormed l.fn.search.variables events;
+  formed : AreFormedEvents l.fn.search.variables events;
 }
 
 abbrev pub decreases-descending : goal.decreases-descending

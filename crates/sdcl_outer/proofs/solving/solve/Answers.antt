@@ -7,7 +7,7 @@ use Rattle.sdcl_store.proofs.Slots.{live_append}
 use Rattle.sdcl_trail.specs.Levels.{decisions}
 use Rattle.sdcl_inner.specs.Searching.{state_of, Begins, State}
 use Rattle.sdcl_journal.specs.Machine.{Rules, RunState, Event, Path, Run, start, after_all, database}
-use Rattle.sdcl_outer.specs.Coursing.{IsToldAll, Stops, Matches, AreFormed}
+use Rattle.sdcl_outer.specs.Coursing.{IsToldAll, Stops, Matches, AreFormedEvents}
 use Rattle.sdcl_outer.specs.Errors.{rules_of}
 use Rattle.sdcl_outer.specs.Running.{StopsOnPath, Runs}
 use Rattle.sdcl_outer.specs.Turning.{Closes, Gains, TurnFails, Turns}

@@ -5,7 +5,7 @@ use Rattle.sdcl_store.specs.Stores.{clauses_in}
 use Rattle.sdcl_trail.specs.Levels.{decisions}
 use Rattle.sdcl_inner.specs.Searching.{state_of, IsInOrder}
 use Rattle.sdcl_journal.specs.Machine.{Event, Path, start, after_all}
-use Rattle.sdcl_outer.specs.Coursing.{IsToldAll, Matches, AreFormed}
+use Rattle.sdcl_outer.specs.Coursing.{IsToldAll, Matches, AreFormedEvents}
 use Rattle.sdcl_outer.specs.Errors.{rules_of}
 use Rattle.sdcl_outer.proofs.solving.solve.Given as goal
 
@@ -23,7 +23,7 @@ invariant-learning g l = record {
   events : List Event;
   told : IsToldAll g.S.ProofOut.tells g.S.JournalOut.tells_events l.fn.sink l.sink events;
   path : Path (rules_of l.fn.variables l.options) (clauses_in l.fn.store) events;
-  formed : AreFormed l.fn.variables events;
+  formed : AreFormedEvents l.fn.variables events;
   matches : Matches (after_all (start (clauses_in l.fn.store)) events) l.search.clauses.slots (decisions l.search.trail) l.learned false;
   learned : List Clause;
   joined : clauses_in l.search.clauses ≡ clauses_in l.fn.store ++ learned;
