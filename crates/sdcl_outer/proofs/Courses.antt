@@ -1,21 +1,18 @@
 -- Where the machine stands after what the solver does.
-use Rattle.std.proofs.Common.{◌≡◌, ◌≢◌, ◌∙◌, ◌≤◌, ◌<◌, ◌+◌, ◌-◌, ◌⊎◌, ℕ, zero, suc, Bool, true, false, not, ◌&&◌, List, [], ◌∷◌, ◌++◌, map, length, take, Some, inl, inr, refl, sym, ap, subst, arith, nat_le}
+use Rattle.std.proofs.Common.{◌≡◌, ◌∙◌, ◌≤◌, ◌<◌, ◌+◌, ◌-◌, ◌⊎◌, ℕ, zero, suc, Bool, true, false, not, ◌&&◌, List, [], ◌∷◌, ◌++◌, length, take, Some, inl, inr, refl, sym, ap, subst, arith, nat_le}
 use Rattle.std.proofs.lemmas.Bool.{and_from, le-leb, true≢false}
-use Rattle.std.proofs.lemmas.List.{length-map}
 use Rattle.std.specs.List.{list_all}
 use Rattle.sdcl_base.specs.Literal.{Literal, Clause, pos_lit, negated, has, names, same_set, complements}
 use Rattle.sdcl_base.specs.Sets.{In}
 use Rattle.sdcl_base.specs.Propagation.{closure, refutes, falsified}
 use Rattle.sdcl_base.specs.Redundancy.{rup, pr, is_new}
 use Rattle.sdcl_base.specs.Reduct.{HasModel, Long, reduct, is_off}
-use Rattle.sdcl_base.proofs.In.{in_map_from, all_in, all_from, in_has, has_in, negated_negated}
+use Rattle.sdcl_base.proofs.In.{in_map_from, all_from, in_has, negated_negated}
 use Rattle.sdcl_base.proofs.Closure.{closure_holds}
-use Rattle.sdcl_base.proofs.SameSets.{set_sub}
 use Rattle.sdcl_store.specs.Slots.{Slots, live}
-use Rattle.sdcl_store.specs.Fitting.{Level}
 use Rattle.sdcl_store.specs.Trails.{on_trail, Complete}
 use Rattle.sdcl_store.proofs.Slots.{live_append}
-use Rattle.sdcl_store.proofs.Settling.{names_same, long_same, trail_count, pr_same, witness_new}
+use Rattle.sdcl_store.proofs.Settling.{names_same, long_same, trail_count, witness_new}
 use Rattle.sdcl_trail.specs.Levels.{Levels, lits_of, decisions, IsSound}
 use Rattle.sdcl_prop.specs.Seeing.{levels_seen, FitsOver, CompleteOver}
 use Rattle.sdcl_prop.proofs.Seeing.{seen_trail}
@@ -25,10 +22,10 @@ use Rattle.sdcl_inner.proofs.Seen.{fits_opens}
 use Rattle.sdcl_inner.proofs.Joining.{decided_on}
 use Rattle.sdcl_inner.proofs.Refuted.{clause_new as blocked_new}
 use Rattle.sdcl_witness.specs.Witnesses.{Pair}
-use Rattle.sdcl_journal.specs.Machine.{Rules, RunState, Event, Decide, NoWitness, InnerSpent, Learn, LearnWitness, Back, Empty, Model, Unknown, Done, Back_due, database, reached, is_refuted, in_range, covers, current_reduct, may_search, MayTry, Allowed, after, after_all, PathFrom}
+use Rattle.sdcl_journal.specs.Machine.{Rules, RunState, Event, Decide, NoWitness, InnerSpent, Learn, LearnWitness, Back, Empty, Model, Unknown, Done, database, reached, in_range, covers, current_reduct, may_search, MayTry, Allowed, after, after_all, PathFrom}
 use Rattle.sdcl_outer.specs.Attempts.{IsWitness, reduct_here}
 use Rattle.sdcl_outer.specs.Coursing.{Matches, Leads, MayFollow, AreFormedEvents, IsFormedEvent, attempt_at, tries_at, FindsWitness, FindsNothing, TriesNothing}
-use Rattle.sdcl_outer.proofs.Following.{Searches, JoinsRun, Returns, closed_searches, after_decide, after_no_witness, after_inner_spent, after_learn, after_learn_witness, after_back}
+use Rattle.sdcl_outer.proofs.Following.{Searches, JoinsRun, Returns, closed_searches, after_decide, after_no_witness, after_inner_spent, after_back}
 use Rattle.sdcl_outer.proofs.Guards.{may_try, decide_allowed, model_allowed, not_covered}
 
 -- ---- paths, one behind another

@@ -1,11 +1,8 @@
 -- What each event leaves.
-use Rattle.std.proofs.Common.{◌≡◌, Bool, true, false, cond, List, [], ◌∷◌, ◌++◌, length, take, inl, inr, refl, sym, ap, subst, ◌∙◌, ℕ, zero, suc, ◌==◌, ◌+◌, ◌≢◌, append_assoc, append-nil, ◌-◌}
-use Rattle.std.proofs.lemmas.Bool.{false≢true, cases_Bool, cond-true, cond-false}
-use Rattle.std.specs.List.{list_all}
+use Rattle.std.proofs.Common.{◌≡◌, Bool, true, false, cond, List, [], ◌∷◌, ◌++◌, length, take, refl, sym, ap, ◌∙◌, ℕ, zero, suc, ◌==◌, ◌+◌, append_assoc, append-nil}
+use Rattle.std.proofs.lemmas.Bool.{false≢true}
 use Rattle.std.specs.Prelude.{IsTrue}
-use Rattle.sdcl_base.proofs.In.{in_append_left, in_append_right, in_append_cases, all_in, all_from}
-use Rattle.sdcl_base.specs.Literal.{Literal, Clause, same_set}
-use Rattle.sdcl_base.specs.Sets.{In}
+use Rattle.sdcl_base.specs.Literal.{Literal, Clause}
 use Rattle.sdcl_io.specs.Step.{remove_clause}
 use Rattle.sdcl_journal.specs.Machine.{Rules, Turn, Search, Back_due, Forgetting, Done, RunState, Event, Decide, NoWitness, InnerSpent, Learn, LearnWitness, Back, Forget, database, start, may_search, may_forget, Allowed, closed_by_turn, closed, with_learned, one_more_gone, after, after_all, PathFrom, Path, event_steps, steps}
 

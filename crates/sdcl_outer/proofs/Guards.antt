@@ -1,27 +1,24 @@
 -- Each event is allowed by what a solver knows of its trail.
-use Rattle.std.proofs.Common.{◌≡◌, Bool, true, false, not, ◌&&◌, ◌||◌, List, [], ◌∷◌, ◌++◌, length, inl, inr, refl, sym, ap, subst, ◌∙◌, ℕ, zero, suc, ◌==◌, ◌+◌, ◌≤◌, ◌<◌, arith, ◌≢◌, Option, Some, ◌-◌, nat_le, nat_lt}
-use Rattle.std.proofs.lemmas.Bool.{and_parts, or_cases, or_left, or_right, true≢false, cases_Bool, cases_lt, not_from_false, false_from_ne_true, eq-eqb, cond-true, cond-false, leb-true, le-leb, lt-ltb}
+use Rattle.std.proofs.Common.{◌≡◌, Bool, true, false, not, ◌&&◌, ◌||◌, List, [], ◌∷◌, length, inl, inr, refl, sym, ap, subst, ◌∙◌, ℕ, zero, suc, ◌==◌, ◌≤◌, ◌<◌, arith, nat_le, nat_lt}
+use Rattle.std.proofs.lemmas.Bool.{and_parts, or_cases, or_left, or_right, true≢false, cases_lt, not_from_false, false_from_ne_true, eq-eqb, leb-true, le-leb, lt-ltb}
 use Rattle.std.specs.List.{list_any, list_all}
 use Rattle.std.specs.Prelude.{IsTrue}
-use Rattle.sdcl_base.proofs.In.{in_append_left, in_append_right, in_append_cases, all_in, all_from, any_in, any_from, has_in, in_has}
-use Rattle.sdcl_base.proofs.SameSets.{set_sub, set_from_sub}
+use Rattle.sdcl_base.proofs.In.{all_in, all_from, has_in, in_has}
+use Rattle.sdcl_base.proofs.SameSets.{set_sub}
 use Rattle.sdcl_base.specs.Literal.{Literal, pos_lit, neg_lit, negated, Clause, has, same_set, complements, names}
 use Rattle.sdcl_base.specs.Propagation.{falsified, refutes}
 use Rattle.sdcl_base.specs.Reduct.{HasModel, Long, is_off}
 use Rattle.sdcl_base.specs.Redundancy.{pr}
 use Rattle.sdcl_base.specs.Sets.{In, Sub}
-use Rattle.sdcl_io.specs.Step.{remove_clause}
 use Rattle.sdcl_journal.specs.Machine.{Rules, Back_due, RunState, Decide, NoWitness, InnerSpent, Learn, LearnWitness, Back, Empty, Model, Unknown, database, reached, is_refuted, in_range, covers, attempt_due, current_reduct, may_search, MayTry, Allowed}
 use Rattle.sdcl_outer.specs.Coursing.{attempt_at}
 use Rattle.sdcl_store.proofs.Analysing.{analysis_learned}
-use Rattle.sdcl_store.proofs.Fitting.{justified_kept, Fit, fit_parts, fit_from, none_left, trail_reached, trail_conflict}
+use Rattle.sdcl_store.proofs.Fitting.{trail_reached, trail_conflict}
 use Rattle.sdcl_store.proofs.Settling.{names_same, reduct_same, long_same, trail_count, at_literal, new_same, rup_same, witness_new, pr_same}
 use Rattle.sdcl_store.specs.Analysis.{analysis}
-use Rattle.sdcl_store.specs.Fitting.{Level, literals, trail_fits}
+use Rattle.sdcl_store.specs.Fitting.{Level, trail_fits}
 use Rattle.sdcl_store.specs.Laws.{Learned}
-use Rattle.sdcl_store.specs.Trails.{on_trail, Complete, Jumped, reduct_at, is_reason}
-use Rattle.sdcl_base.specs.declared.mode.ReductMode.{ReductMode}
-use Rattle.sdcl_base.specs.declared.mode.ReductMode.TheVariants as mode
+use Rattle.sdcl_store.specs.Trails.{on_trail, Complete, Jumped, reduct_at}
 
 -- ---- sets with the same elements
 

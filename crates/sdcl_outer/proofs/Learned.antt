@@ -1,5 +1,5 @@
 -- The clause of the complements of the decisions, learned at a conflict or with a witness.
-use Rattle.std.proofs.Common.{◌≡◌, ◌≢◌, ◌∙◌, ◌≤◌, ◌<◌, ◌+◌, ◌-◌, ℕ, true, false, List, [], ◌∷◌, ◌++◌, length, slice_get, inl, inr, refl, sym, ap, subst, arith}
+use Rattle.std.proofs.Common.{◌≡◌, ◌≤◌, ◌<◌, ◌+◌, ◌-◌, ℕ, true, false, [], ◌∷◌, length, slice_get, inl, inr, refl, sym, subst, arith}
 use Rattle.std.proofs.lemmas.Bool.{or_cases}
 use Rattle.std.specs.List.{list_all}
 use Rattle.sdcl_base.specs.Literal.{Literal, Clause, negated, has, names, same_set, complements}
@@ -15,7 +15,7 @@ use Rattle.sdcl_prop.proofs.Deciding.{decisions_distinct}
 use Rattle.sdcl_inner.specs.Searching.{State, Joins}
 use Rattle.sdcl_inner.proofs.Joining.{clause_ranged}
 use Rattle.sdcl_witness.specs.Witnesses.{Pair}
-use Rattle.sdcl_journal.specs.Machine.{Rules, RunState, Event, Learn, LearnWitness, Back, Allowed, after_all, PathFrom}
+use Rattle.sdcl_journal.specs.Machine.{Rules, RunState, Learn, LearnWitness, Back, Allowed, after_all, PathFrom}
 use Rattle.sdcl_outer.specs.Attempts.{IsWitness}
 use Rattle.sdcl_outer.specs.Coursing.{Matches, FindsWitness, learning}
 use Rattle.sdcl_outer.specs.Outcome.{IsCleanOver}

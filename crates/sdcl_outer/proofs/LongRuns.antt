@@ -1,5 +1,5 @@
 -- A long run on a reduct has a small budget.
-use Rattle.std.proofs.Common.{◌≡◌, Bool, true, false, not, ◌&&◌, cond, List, [], ◌∷◌, ◌++◌, map, length, inl, inr, refl, sym, ap, subst, ◌∙◌, ℕ, ◌+◌, ◌*◌, ◌≤◌, ◌<◌, arith, ◌≢◌, ◌-◌, ◌^◌, length-append}
+use Rattle.std.proofs.Common.{◌≡◌, Bool, true, false, not, ◌&&◌, cond, List, [], ◌∷◌, ◌++◌, map, length, inl, inr, refl, sym, ap, subst, ◌∙◌, ℕ, ◌+◌, ◌*◌, ◌≤◌, ◌<◌, arith, ◌^◌, length-append}
 use Rattle.std.proofs.Math.Nat.{pow-succ'}
 use Rattle.std.proofs.lemmas.Bool.{and_parts, or_cases, true≢false, cases_Bool, cases_lt, not-true, false_from_ne_true, cond-true, cond-false}
 use Rattle.std.proofs.lemmas.List.{length-map}

@@ -1,5 +1,5 @@
 -- What a run, or a path on which the sink stopped, says of the proof's steps.
-use Rattle.std.proofs.Common.{◌≡◌, ◌∙◌, ◌≤◌, ◌+◌, ◌||◌, ℕ, suc, zero, Bool, true, false, cond, List, [], ◌∷◌, ◌++◌, length, Option, Some, None, IfSome, inl, inr, refl, sym, ap, subst, arith, append_assoc, append-nil}
+use Rattle.std.proofs.Common.{◌≡◌, ◌∙◌, ℕ, Bool, true, List, [], ◌∷◌, ◌++◌, length, refl, sym, ap, subst, arith, append-nil}
 use Rattle.std.proofs.lemmas.Bool.{or_right}
 use Rattle.std.proofs.lemmas.List.Folds.{list_any-append}
 use Rattle.std.specs.List.{list_any, list_all}
@@ -8,14 +8,14 @@ use Rattle.sdcl_base.specs.Truth.{meets, meets_clause}
 use Rattle.sdcl_base.specs.Values.{truth_of}
 use Rattle.sdcl_base.specs.Sets.{In}
 use Rattle.sdcl_base.proofs.In.{all_in, all_from, in_append_left}
-use Rattle.sdcl_io.specs.Step.{Step, Add, All, End, Verified, adds_empty, apply, apply_all, judge, valid, ValidSteps}
+use Rattle.sdcl_io.specs.Step.{Step, Add, All, End, adds_empty, apply_all}
 use Rattle.sdcl_io.proofs.Judging.{valid_verified}
-use Rattle.sdcl_journal.specs.Machine.{Rules, RunState, Event, Empty, Model, Unknown, database, start, may_search, Allowed, after, after_all, PathFrom, Path, Run, event_steps, steps}
+use Rattle.sdcl_journal.specs.Machine.{Rules, RunState, Event, Empty, Unknown, database, start, may_search, Allowed, after_all, PathFrom, Path, event_steps, steps}
 use Rattle.sdcl_journal.proofs.PathSteps.{path_valid}
 use Rattle.sdcl_outer.specs.Coursing.{AreFormedEvents}
 use Rattle.sdcl_outer.specs.Outcome.{NewSteps, IsDueAt, is_addition, Ends}
 use Rattle.sdcl_outer.specs.Running.{AreLawful}
-use Rattle.sdcl_outer.specs.Turning.{EndsIn, IsRight}
+use Rattle.sdcl_outer.specs.Turning.{IsRight}
 use Rattle.sdcl_outer.specs.declared.solving.Answer.{Answer}
 use Rattle.sdcl_outer.specs.declared.solving.Answer.TheVariants as answer
 use Rattle.sdcl_outer.proofs.Following.{state_grows}

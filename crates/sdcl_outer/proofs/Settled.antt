@@ -1,18 +1,16 @@
 -- What a settled reduct says of the attempt.
-use Rattle.std.proofs.Common.{◌≡◌, ◌≢◌, ◌≤◌, ◌<◌, ◌+◌, ℕ, suc, Bool, true, false, not, ◌||◌, List, [], ◌∷◌, ◌++◌, map, length, get_or, slice_get, All, Result, Ok, Err, IfOk, ◌⊎◌, inl, inr, refl, sym, ap, subst, ◌∙◌, arith}
-use Rattle.std.specs.List.{list_any, list_all, filter}
-use Rattle.std.proofs.lemmas.Bool.{or_left, or_right, true≢false, cases_Bool, not_from_false, false_from_ne_true}
+use Rattle.std.proofs.Common.{◌≡◌, ◌≢◌, ◌≤◌, ◌<◌, ℕ, suc, Bool, true, false, not, List, [], ◌∷◌, map, length, get_or, slice_get, All, Result, Ok, Err, IfOk, inl, inr, refl, sym, ap, subst, ◌∙◌, arith}
+use Rattle.std.proofs.lemmas.Bool.{or_left, or_right, true≢false, cases_Bool, not_from_false}
 use Rattle.sdcl_base.specs.Literal.{Literal, Clause, pos_lit, negated, same, has, names, same_set, complements, without}
 use Rattle.sdcl_base.specs.Sets.{In, Sub}
-use Rattle.sdcl_base.specs.Truth.{makes_true, meets_clause, meets, Unsatisfiable}
-use Rattle.sdcl_base.specs.Propagation.{closure, refutes}
-use Rattle.sdcl_base.specs.Redundancy.{pr}
+use Rattle.sdcl_base.specs.Truth.{makes_true, meets_clause, meets}
+use Rattle.sdcl_base.specs.Propagation.{closure}
 use Rattle.sdcl_base.specs.Reduct.{touched, reduct, reduct_of, positive_reduct, filtered_reduct, positive_members, filtered_members, HasModel, ShowsLong, is_off}
 use Rattle.sdcl_base.specs.declared.mode.ReductMode.{ReductMode}
 use Rattle.sdcl_base.specs.declared.mode.ReductMode.TheVariants as mode
-use Rattle.sdcl_base.proofs.In.{in_append_right, in_append_cases, in_map, in_map_from, in_filter, in_filter_from, all_in, all_from, any_in, any_from, has_in, in_has, negated_negated, same_true}
+use Rattle.sdcl_base.proofs.In.{in_append_right, in_append_cases, in_map, in_map_from, in_filter, in_filter_from, all_in, all_from, any_from, in_has, negated_negated, same_true}
 use Rattle.sdcl_base.proofs.Closure.{closure_holds}
-use Rattle.sdcl_base.proofs.SameSets.{set_sub, set_from_sub, set_sym, set_trans, in_without}
+use Rattle.sdcl_base.proofs.SameSets.{set_sub, set_from_sub, set_sym, set_trans}
 use Rattle.sdcl_base.proofs.Soundness.{true_negated}
 use Rattle.sdcl_base.proofs.Reducts.{difference, difference_named, witness_model}
 use Rattle.sdcl_store.specs.Slots.{Slots, live}

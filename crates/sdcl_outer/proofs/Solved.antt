@@ -1,6 +1,6 @@
 -- The solver's turns, one behind another.
-use Rattle.std.proofs.Common.{◌≡◌, ◌∙◌, ◌≤◌, ◌+◌, ◌++◌, ◌∷◌, [], List, Option, Some, false, ℕ, inl, inr, refl, sym, ap, subst, append-nil}
-use Rattle.sdcl_base.specs.Literal.{Literal, Clause}
+use Rattle.std.proofs.Common.{◌≡◌, ◌∙◌, ◌++◌, ◌∷◌, [], List, Option, Some, false, ℕ, inl, inr, refl, sym, ap, subst, append-nil}
+use Rattle.sdcl_base.specs.Literal.{Clause}
 use Rattle.sdcl_base.specs.Sets.{In, WithinVariables}
 use Rattle.sdcl_base.proofs.In.{in_append_cases}
 use Rattle.sdcl_io.specs.Step.{Step}
@@ -12,7 +12,7 @@ use Rattle.sdcl_journal.specs.Machine.{Rules, RunState, Event, Done, database, s
 use Rattle.sdcl_outer.specs.Coursing.{IsToldAll, Stops, Matches, AreFormedEvents}
 use Rattle.sdcl_outer.specs.Outcome.{IsCleanOver}
 use Rattle.sdcl_outer.specs.Running.{EndsAs, Runs, StopsOnPath}
-use Rattle.sdcl_outer.specs.Turning.{EndsIn, IsRight, Closes, Gains, TurnFails}
+use Rattle.sdcl_outer.specs.Turning.{IsRight, Closes, TurnFails}
 use Rattle.sdcl_outer.specs.declared.solving.Answer.{Answer}
 use Rattle.sdcl_outer.specs.declared.solving.Answer.TheVariants as answer
 use Rattle.sdcl_outer.proofs.Courses.{path_append, after_append, formed_append, formed_none}

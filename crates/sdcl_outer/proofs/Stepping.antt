@@ -1,16 +1,12 @@
 -- The proof steps of a path whose events are formed.
-use Rattle.std.proofs.Common.{◌≡◌, ◌∙◌, ◌≤◌, ◌<◌, ◌+◌, ◌||◌, ◌&&◌, ℕ, suc, Bool, true, false, cond, List, [], ◌∷◌, ◌++◌, length, length-append, Option, Some, None, inl, inr, refl, sym, ap, subst, arith, append_assoc, append-nil}
-use Rattle.std.proofs.lemmas.Bool.{true≢false, or_right}
-use Rattle.std.proofs.lemmas.List.Folds.{list_any-append}
-use Rattle.std.specs.Prelude.{IsTrue}
+use Rattle.std.proofs.Common.{◌≡◌, ◌∙◌, ◌≤◌, ◌+◌, ◌||◌, ◌&&◌, ℕ, suc, Bool, true, false, cond, List, [], ◌∷◌, ◌++◌, length, refl, sym, ap, subst, arith}
+use Rattle.std.proofs.lemmas.Bool.{true≢false}
 use Rattle.std.specs.List.{list_any, list_all}
-use Rattle.sdcl_base.specs.Literal.{Literal, Clause}
+use Rattle.sdcl_base.specs.Literal.{Clause}
 use Rattle.sdcl_base.specs.Redundancy.{is_new}
-use Rattle.sdcl_io.specs.Step.{Step, Add, AddWitness, Delete, All, End, Verified, adds_empty, is_empty, apply, apply_all, judge, valid, ValidSteps}
-use Rattle.sdcl_io.proofs.Judging.{valid_verified}
-use Rattle.sdcl_journal.specs.Machine.{Rules, RunState, Turn, Event, Decide, NoWitness, InnerSpent, Learn, LearnWitness, Back, Forget, Empty, Model, Unknown, Done, Back_due, database, start, may_search, may_forget, Allowed, after, after_all, PathFrom, Path, event_steps, steps}
-use Rattle.sdcl_journal.proofs.PathSteps.{path_valid}
-use Rattle.sdcl_outer.specs.Coursing.{AreFormedEvents, IsFormedEvent}
+use Rattle.sdcl_io.specs.Step.{Step, Add, AddWitness, All, adds_empty, is_empty, apply, apply_all}
+use Rattle.sdcl_journal.specs.Machine.{Rules, RunState, Turn, Event, Decide, NoWitness, InnerSpent, Learn, LearnWitness, Back, Forget, Empty, Model, Unknown, Done, Back_due, database, may_search, may_forget, Allowed, after, after_all, PathFrom, event_steps, steps}
+use Rattle.sdcl_outer.specs.Coursing.{AreFormedEvents}
 use Rattle.sdcl_outer.specs.Outcome.{IsCleanOver, IsNewClause, AddsNew, NewSteps, is_addition, learned_in}
 use Rattle.sdcl_outer.proofs.Following.{after_decide, after_no_witness, after_inner_spent, after_learn, after_learn_witness, after_back}
 use Rattle.sdcl_outer.proofs.Courses.{done_empty, done_model, done_unknown}

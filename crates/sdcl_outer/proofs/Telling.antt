@@ -1,12 +1,12 @@
 -- What a sink is told, one list behind another.
-use Rattle.std.proofs.Common.{◌≡◌, ◌∙◌, List, [], ◌∷◌, ◌++◌, Option, Some, None, Result, Ok, Err, OnOk, OnErr, IfOk, IfSome, inl, inr, refl, sym, ap, subst, append_assoc, append-nil}
+use Rattle.std.proofs.Common.{◌≡◌, ◌∙◌, List, [], ◌∷◌, ◌++◌, Option, Some, None, Result, Ok, Err, OnOk, OnErr, IfSome, inl, inr, refl, sym, ap, subst, append_assoc, append-nil}
 use Rattle.sdcl_base.specs.Literal.{Clause}
 use Rattle.sdcl_io.specs.Step.{Step, AddWitness}
 use Rattle.sdcl_io.specs.Sinks.{addition}
 use Rattle.sdcl_io.specs.declared.world.Failed.{Failed}
 use Rattle.sdcl_io.specs.Telling.{IsTold}
 use Rattle.sdcl_journal.specs.Machine.{Event, event_steps, steps}
-use Rattle.sdcl_outer.specs.Coursing.{IsToldAll, IsStepOfNext, IsTornStep, StopsBefore, StopsWithin, Stops}
+use Rattle.sdcl_outer.specs.Coursing.{IsToldAll, IsStepOfNext, IsTornStep, StopsWithin, Stops}
 
 -- ---- one list
 

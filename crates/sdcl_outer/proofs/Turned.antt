@@ -1,16 +1,16 @@
 -- A way down, and what comes behind it.
-use Rattle.std.proofs.Common.{◌≡◌, ◌∙◌, ◌≤◌, ◌+◌, ℕ, true, false, List, [], ◌∷◌, ◌++◌, Option, Some, None, Result, Ok, Err, IfOk, OnErr, refl, sym, ap, subst, arith, append_assoc}
+use Rattle.std.proofs.Common.{◌≡◌, ◌∙◌, ◌≤◌, ◌+◌, ℕ, false, List, [], ◌∷◌, ◌++◌, Option, Some, None, Result, Ok, Err, IfOk, OnErr, sym, ap, subst, arith, append_assoc}
 use Rattle.sdcl_base.specs.Literal.{Clause}
 use Rattle.sdcl_io.specs.Step.{Step}
 use Rattle.sdcl_store.specs.Slots.{Slots, live}
 use Rattle.sdcl_trail.specs.Levels.{decisions}
 use Rattle.sdcl_inner.specs.Searching.{State}
 use Rattle.sdcl_witness.specs.Witnesses.{Pair}
-use Rattle.sdcl_journal.specs.Machine.{Rules, RunState, Event, Done, database, PathFrom, after_all}
+use Rattle.sdcl_journal.specs.Machine.{Rules, RunState, Event, database, after_all}
 use Rattle.sdcl_outer.specs.Coursing.{Matches, IsToldAll, Stops, Fails}
 use Rattle.sdcl_outer.specs.Descending.{GoesDown}
 use Rattle.sdcl_outer.specs.Outcome.{IsCleanOver}
-use Rattle.sdcl_outer.specs.Turning.{EndsIn, IsRight, Closes, Gains, Turns, TurnFails}
+use Rattle.sdcl_outer.specs.Turning.{EndsIn, IsRight, Turns, TurnFails}
 use Rattle.sdcl_outer.specs.declared.descending.Bottom.{Bottom}
 use Rattle.sdcl_outer.specs.declared.solving.Answer.{Answer}
 use Rattle.sdcl_outer.specs.declared.solving.Answer.TheVariants as answer

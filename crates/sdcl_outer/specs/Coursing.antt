@@ -7,7 +7,7 @@ use Rattle.sdcl_io.specs.Telling.{IsTold}
 use Rattle.sdcl_store.specs.Slots.{Slots, live}
 use Rattle.sdcl_store.specs.Fitting.{Level}
 use Rattle.sdcl_store.specs.Trails.{on_trail}
-use Rattle.sdcl_trail.specs.Levels.{Levels, lits_of, decisions}
+use Rattle.sdcl_trail.specs.Levels.{lits_of, decisions}
 use Rattle.sdcl_inner.specs.Searching.{State}
 use Rattle.sdcl_witness.specs.Witnesses.{Pair}
 use Rattle.sdcl_journal.specs.Machine.{Rules, RunState, Event, NoWitness, InnerSpent, Learn, LearnWitness, Back, Forget, Decide, Empty, Model, Unknown, database, covers, may_search, after_all, PathFrom, event_steps, steps}

@@ -1,5 +1,5 @@
 -- How a run of the solver ends.
-use Rattle.std.specs.Prelude.{◌≡◌, ◌≢◌, ◌⊎◌, ⊤, ℕ, suc, ◌+◌, ◌≤◌, Bool, true, false, List, [], ◌∷◌, ◌++◌, length, Option, None, IfSome, slice_get, if◌then◌else◌}
+use Rattle.std.specs.Prelude.{◌≡◌, ◌≢◌, ◌⊎◌, ⊤, ℕ, suc, ◌+◌, ◌≤◌, Bool, true, false, List, [], ◌∷◌, ◌++◌, length, slice_get, if◌then◌else◌}
 use Rattle.std.specs.List.{list_any, list_all}
 use Rattle.sdcl_base.specs.Literal.{Literal, Clause, names}
 use Rattle.sdcl_base.specs.Truth.{meets}
@@ -8,7 +8,7 @@ use Rattle.sdcl_base.specs.Propagation.{closure, refutes}
 use Rattle.sdcl_base.specs.Redundancy.{is_new}
 use Rattle.sdcl_base.specs.Marks.{no_repeats}
 use Rattle.sdcl_base.specs.Values.{IsTotal, truth_of}
-use Rattle.sdcl_io.specs.Step.{Step, Add, AddWitness, Delete, All, End, Verified, adds_empty, apply, apply_all, judge, valid, ValidSteps}
+use Rattle.sdcl_io.specs.Step.{Step, Add, AddWitness, Delete, All, End, Verified, adds_empty, apply, apply_all, judge}
 use Rattle.sdcl_base.specs.Reduct.{reduct, HasModel, is_off}
 use Rattle.sdcl_journal.specs.Machine.{Rules, covers}
 use Rattle.sdcl_outer.specs.declared.solving.Answer.{Answer}

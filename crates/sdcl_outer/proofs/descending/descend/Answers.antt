@@ -1,11 +1,11 @@
-use Rattle.std.proofs.Common.{◌≡◌, ◌∙◌, ◌≤◌, ◌<◌, ◌+◌, ◌∷◌, ◌++◌, [], List, true, false, ℕ, refl, inl, inr, length, ap, sym, subst, arith, append-nil}
-use Rattle.sdcl_base.specs.Literal.{Literal, Clause, pos_lit, names}
-use Rattle.sdcl_store.specs.Slots.{Slots, live}
+use Rattle.std.proofs.Common.{◌≡◌, ◌∙◌, ◌≤◌, ◌∷◌, ◌++◌, [], List, true, false, refl, inr, ap, sym, subst, arith, append-nil}
+use Rattle.sdcl_base.specs.Literal.{names}
+use Rattle.sdcl_store.specs.Slots.{Slots}
 use Rattle.sdcl_trail.specs.Levels.{Levels, lits_of, decisions}
 use Rattle.sdcl_prop.specs.Seeing.{CompleteOver}
-use Rattle.sdcl_inner.specs.Searching.{State, state_of, IsInOrder, Propagates, Decides}
-use Rattle.sdcl_journal.specs.Machine.{Rules, Event, Decide, covers}
-use Rattle.sdcl_outer.specs.Coursing.{IsToldAll, Stops, Leads, MayFollow, AreFormedEvents, TriesHere, TryFails, TriesNothing, FindsWitness}
+use Rattle.sdcl_inner.specs.Searching.{state_of, Propagates, Decides}
+use Rattle.sdcl_journal.specs.Machine.{Event, Decide}
+use Rattle.sdcl_outer.specs.Coursing.{IsToldAll, Stops, Leads, TriesHere, TryFails, FindsWitness}
 use Rattle.sdcl_outer.specs.Errors.{rules_of}
 use Rattle.sdcl_outer.proofs.Courses.{leads_none, leads_on, leads_same, follows_on, formed_none, formed_one, formed_append, tried_leads, tried_follows, attempt_follows, attempt_formed, open_at, found_same}
 use Rattle.sdcl_outer.proofs.Telling.{all_nothing, all_on, stops_on, refused}

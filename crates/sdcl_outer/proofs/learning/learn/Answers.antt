@@ -1,8 +1,7 @@
-use Rattle.std.proofs.Common.{◌≡◌, ◌∙◌, ◌∷◌, ◌++◌, ◌-◌, [], List, length, ap, sym, subst}
+use Rattle.std.proofs.Common.{◌∷◌, ◌-◌, [], length, subst}
 use Rattle.sdcl_journal.specs.Machine.{Event, Back}
-use Rattle.sdcl_journal.specs.Events.{event_of}
 use Rattle.sdcl_outer.specs.Coursing.{IsToldAll, Stops, learning}
-use Rattle.sdcl_outer.proofs.Telling.{all_on, stops_on, stops_after, stops_longer, on_ok, refused}
+use Rattle.sdcl_outer.proofs.Telling.{all_on, stops_on, stops_after, stops_longer, refused}
 use Rattle.sdcl_outer.proofs.learning.learn.Goals as goal
 
 pub returns-in_err-record-clause-err : goal.returns-in_err-record-clause-err

@@ -1,18 +1,16 @@
-use Rattle.std.proofs.Common.{◌≡◌, ◌∙◌, ◌≤◌, ◌<◌, ◌+◌, ◌-◌, ◌∷◌, ◌++◌, [], List, Some, None, true, false, ℕ, refl, inl, inr, length, length-append, ap, sym, subst, arith, rules, append_assoc, append-nil}
+use Rattle.std.proofs.Common.{◌≡◌, ◌∙◌, ◌+◌, ◌∷◌, ◌++◌, [], List, Some, None, length, length-append, ap, sym, subst, arith, rules, append_assoc, append-nil}
 use Rattle.sdcl_base.specs.Literal.{Clause}
 use Rattle.sdcl_base.specs.Sets.{WithinVariables}
 use Rattle.sdcl_store.specs.Slots.{Slots, live}
 use Rattle.sdcl_store.specs.Stores.{clauses_in}
 use Rattle.sdcl_store.proofs.Slots.{live_append}
 use Rattle.sdcl_trail.specs.Levels.{decisions}
-use Rattle.sdcl_inner.specs.Searching.{state_of, Begins, State}
-use Rattle.sdcl_journal.specs.Machine.{Rules, RunState, Event, Path, Run, start, after_all, database}
-use Rattle.sdcl_outer.specs.Coursing.{IsToldAll, Stops, Matches, AreFormedEvents}
+use Rattle.sdcl_inner.specs.Searching.{state_of, Begins}
+use Rattle.sdcl_journal.specs.Machine.{start, after_all}
+use Rattle.sdcl_outer.specs.Coursing.{IsToldAll, Stops}
 use Rattle.sdcl_outer.specs.Errors.{rules_of}
-use Rattle.sdcl_outer.specs.Running.{StopsOnPath, Runs}
-use Rattle.sdcl_outer.specs.Turning.{Closes, Gains, TurnFails, Turns}
-use Rattle.sdcl_outer.specs.declared.solving.Answer.{Answer}
-use Rattle.sdcl_outer.proofs.Telling.{all_nothing, all_on, stops_after, stops_on, refused}
+use Rattle.sdcl_outer.specs.Turning.{Gains, TurnFails, Turns}
+use Rattle.sdcl_outer.proofs.Telling.{all_nothing, all_on, refused}
 use Rattle.sdcl_witness.specs.Witnesses.{Pair, bare_pair}
 use Rattle.sdcl_outer.specs.Outcome.{IsCleanOver}
 use Rattle.sdcl_outer.proofs.Courses.{formed_none, formed_append}

@@ -1,12 +1,11 @@
-use Rattle.std.proofs.Common.{◌≡◌, ◌≢◌, ◌∙◌, ◌≤◌, ◌<◌, ◌+◌, ◌-◌, ◌∷◌, [], ℕ, List, Some, true, false, refl, inl, inr, length, ap, sym, subst, arith, rules}
-use Rattle.sdcl_base.specs.Literal.{Clause, complements}
+use Rattle.std.proofs.Common.{◌≡◌, ◌<◌, ◌-◌, ◌∷◌, [], refl, inl, length, subst, arith, rules}
+use Rattle.sdcl_base.specs.Literal.{complements}
 use Rattle.sdcl_store.specs.Slots.{live}
 use Rattle.sdcl_trail.specs.Levels.{decisions}
-use Rattle.sdcl_inner.specs.Searching.{State, state_of, AreValues, Joins}
-use Rattle.sdcl_journal.specs.Machine.{Rules, RunState, Event, Empty, Model, Unknown, Learn, LearnWitness, Back, Done, PathFrom, after_all}
-use Rattle.sdcl_outer.specs.Coursing.{Matches, IsToldAll, Stops, learning}
+use Rattle.sdcl_inner.specs.Searching.{state_of, Joins}
+use Rattle.sdcl_journal.specs.Machine.{Empty, Unknown, Learn, Back}
 use Rattle.sdcl_outer.specs.Errors.{rules_of}
-use Rattle.sdcl_outer.specs.Outcome.{AreRefuted, IsDueAt}
+use Rattle.sdcl_outer.specs.Outcome.{AreRefuted}
 use Rattle.sdcl_inner.proofs.Seen.{fits_opens}
 use Rattle.sdcl_outer.proofs.Courses.{empty_allowed, done_empty, same_empty, unknown_at_conflict, done_unknown, same_unknown, end_path, path_none, formed_none, formed_one, formed_two}
 use Rattle.sdcl_outer.proofs.Telling.{all_nothing, stops_after, refused}

@@ -1,12 +1,7 @@
-use Rattle.std.proofs.Common.{◌≡◌, ◌≢◌, ◌∙◌, ◌≤◌, ◌<◌, ◌+◌, ◌-◌, ◌∷◌, [], ℕ, List, Some, true, false, refl, inl, inr, length, ap, sym, subst, arith, rules}
-use Rattle.sdcl_base.specs.Literal.{Clause, complements}
-use Rattle.sdcl_store.specs.Slots.{live}
-use Rattle.sdcl_trail.specs.Levels.{decisions}
-use Rattle.sdcl_inner.specs.Searching.{State, state_of, AreValues, Joins}
-use Rattle.sdcl_journal.specs.Machine.{Rules, RunState, Event, Empty, Model, Unknown, Learn, LearnWitness, Back, Done, PathFrom, after_all}
-use Rattle.sdcl_outer.specs.Coursing.{Matches, IsToldAll, Stops, learning}
+use Rattle.std.proofs.Common.{◌∷◌, [], refl, rules}
+use Rattle.sdcl_inner.specs.Searching.{state_of, AreValues}
+use Rattle.sdcl_journal.specs.Machine.{Model}
 use Rattle.sdcl_outer.specs.Errors.{rules_of}
-use Rattle.sdcl_outer.specs.Outcome.{AreRefuted, IsDueAt}
 use Rattle.sdcl_outer.proofs.Courses.{model_follows, done_model, same_model, end_path, path_none, formed_none, formed_one}
 use Rattle.sdcl_outer.proofs.Telling.{all_nothing, stops_after, refused}
 use Rattle.sdcl_outer.proofs.Modelled.{values_total, values_meet_all}

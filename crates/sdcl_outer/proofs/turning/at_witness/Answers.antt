@@ -1,13 +1,11 @@
-use Rattle.std.proofs.Common.{◌≡◌, ◌≢◌, ◌∙◌, ◌≤◌, ◌<◌, ◌+◌, ◌-◌, ◌∷◌, [], ℕ, List, Some, true, false, refl, inl, inr, length, ap, sym, subst, arith, rules}
-use Rattle.sdcl_base.specs.Literal.{Clause, complements}
+use Rattle.std.proofs.Common.{◌≡◌, ◌∙◌, ◌<◌, ◌-◌, ◌∷◌, [], true, refl, inr, length, ap, subst, arith}
+use Rattle.sdcl_base.specs.Literal.{Clause}
 use Rattle.sdcl_base.specs.Marks.{no_repeats}
-use Rattle.sdcl_store.specs.Slots.{live}
 use Rattle.sdcl_trail.specs.Levels.{decisions}
-use Rattle.sdcl_inner.specs.Searching.{State, state_of, AreValues, Joins}
-use Rattle.sdcl_journal.specs.Machine.{Rules, RunState, Event, Empty, Model, Unknown, Learn, LearnWitness, Back, Done, PathFrom, after_all}
-use Rattle.sdcl_outer.specs.Coursing.{Matches, IsToldAll, Stops, learning}
+use Rattle.sdcl_inner.specs.Searching.{state_of, Joins}
+use Rattle.sdcl_journal.specs.Machine.{Event, Unknown, LearnWitness, Back}
+use Rattle.sdcl_outer.specs.Coursing.{IsToldAll, Stops, learning}
 use Rattle.sdcl_outer.specs.Errors.{rules_of}
-use Rattle.sdcl_outer.specs.Outcome.{AreRefuted, IsDueAt}
 use Rattle.sdcl_outer.proofs.Courses.{unknown_at_witness, done_unknown, same_unknown, end_path, formed_one, formed_two}
 use Rattle.sdcl_outer.proofs.Telling.{refused}
 use Rattle.sdcl_outer.proofs.Witnessed.{decisions_witnessed, tried_decided}

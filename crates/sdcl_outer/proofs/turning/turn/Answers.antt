@@ -1,4 +1,4 @@
-use Rattle.std.proofs.Common.{◌≡◌, IfOk, OnErr, subst}
+use Rattle.std.proofs.Common.{IfOk, OnErr, subst}
 use Rattle.sdcl_inner.specs.Searching.{state_of}
 use Rattle.sdcl_outer.specs.Coursing.{IsToldAll, Stops}
 use Rattle.sdcl_outer.specs.Descending.{GoesDown}
