@@ -1,5 +1,5 @@
 -- What the loading of a proof says of the text that it read.
-use Rattle.std.proofs.Common.{◌≡◌, ◌∙◌, ℕ, true, false, Bool, cond, List, [], ◌∷◌, ◌++◌, length, Option, Some, None, Result, Ok, Err, inl, inr, refl, sym, ap, subst}
+use Rattle.std.proofs.Common.{◌≡◌, ◌∙◌, ℕ, true, false, List, [], ◌∷◌, ◌++◌, length, Option, Some, None, Result, Ok, Err, inl, inr, refl, sym, ap, subst}
 use Rattle.std.specs.List.{list_any}
 use Rattle.std.proofs.lemmas.Bool.{or_parts, cond-true, cond-false}
 use Rattle.std.specs.Io.KnownBytes.{Keeps, prepend_known}
@@ -12,12 +12,12 @@ use Rattle.sdcl_proof.specs.ProofText.{ProofText}
 use Rattle.sdcl_proof.specs.declared.step.Dialect.TheVariants.{Pr}
 use Rattle.sdcl_proof.specs.declared.fault.ProofError.{ProofError}
 use Rattle.sdcl_proof.specs.Stepping.{Stepping, left_in, text_in}
-use Rattle.sdcl_prcheck.specs.Checking.{IsReadOut, EndsEmpty, LeavesOff, AreAll}
+use Rattle.sdcl_prcheck.specs.Checking.{IsReadOut, EndsEmpty, LeavesOff}
 use Rattle.sdcl_prcheck.proofs.Judging.{refutes_formula}
-use Rattle.sdcl_convert.specs.Loading.{LoadsProof, KeepsProof, found_in, verdict_of}
+use Rattle.sdcl_convert.specs.Loading.{LoadsProof, KeepsProof, found_in}
 use Rattle.sdcl_convert.specs.declared.loading.Loaded.{Loaded as Kept}
 use Rattle.sdcl_proof.specs.declared.step_reader.TheConstants.{PROOF_LIMIT}
-use Rattle.sdcl.specs.Judging.{IsReadTo, Judged, steps_of, steps_ahead}
+use Rattle.sdcl.specs.Judging.{IsReadTo, steps_of, steps_ahead}
 use Rattle.sdcl.specs.Admitting.{AreProofSteps, IsAdmitted, AdmitsText, until_empty}
 use Rattle.sdcl.proofs.Reading.{judged_steps, judged_text}
 

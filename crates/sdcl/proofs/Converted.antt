@@ -1,19 +1,18 @@
 -- What the phases of `convert` together did.
-use Rattle.std.proofs.Common.{◌≡◌, ◌∙◌, ◌⊎◌, ◌≤◌, ◌<◌, inl, inr, ℕ, List, [], ◌∷◌, append-nil, Some, None, Result, Ok, Err, IsTrue, IsSome, refl, sym, ap, subst, arith}
+use Rattle.std.proofs.Common.{◌≡◌, ◌∙◌, ◌⊎◌, inl, inr, ℕ, List, [], ◌∷◌, append-nil, Some, None, Result, Ok, Err, IsTrue, IsSome, refl, sym, subst}
 use Rattle.std.specs.Prelude.{⊤}
 use Rattle.sdcl_base.specs.Literal.{Clause}
-use Rattle.sdcl_base.specs.declared.lit.TheConstants.{MAX_VARIABLE}
 use Rattle.sdcl_store.specs.Stores.{clauses_in}
 use Rattle.sdcl_io.specs.declared.world.InRole.TheVariants as input
 use Rattle.sdcl_io.specs.declared.world.OutRole.TheVariants as output
-use Rattle.sdcl_io.specs.World.{Seen, OnlyRead, Unchanged, Calm, SameCounts}
+use Rattle.sdcl_io.specs.World.{Seen, OnlyRead, Unchanged, Calm}
 use Rattle.sdcl_io.specs.Step.{All, End, Verified}
 use Rattle.sdcl_io.proofs.Refuted.{verified_law}
 use Rattle.sdcl_proof.specs.declared.step.Dialect.TheVariants.{Pr}
 use Rattle.sdcl_prcheck.specs.declared.verdict.Verdict.TheVariants as found
 use Rattle.sdcl_convert.specs.Checked.{Proven}
 use Rattle.sdcl_convert.specs.Converting.{lines_for}
-use Rattle.sdcl_convert.specs.Loading.{KeepsProof, found_in}
+use Rattle.sdcl_convert.specs.Loading.{found_in}
 use Rattle.sdcl_convert.specs.declared.loading.Loaded.{Loaded as Kept}
 use Rattle.sdcl_convert.specs.declared.loading.Loaded.TheVariants as kept
 use Rattle.sdcl_convert.specs.declared.converting.Converted.{Converted}
@@ -29,11 +28,11 @@ use Rattle.sdcl.specs.Judging.{Judges, JudgedAs}
 use Rattle.sdcl.specs.Admitting.{AdmitsProof, IsAdmitted, AreProofSteps}
 use Rattle.sdcl.specs.Rewriting.{Rewrites, HoldsFirst, HoldsWhole, converted_out}
 use Rattle.sdcl.specs.Starting.{IsFresh, MadeNothing}
-use Rattle.sdcl.specs.Meaning.{KeepsRest, IsMade, OnlyMade, Performs, IsShown, OutputRefuses, Refused}
+use Rattle.sdcl.specs.Meaning.{KeepsRest, IsMade, OnlyMade, Performs, IsShown, OutputRefuses}
 use Rattle.sdcl.specs.Checking.{checking_in}
-use Rattle.sdcl.specs.Converting.{IsProofOf, IsConvertible, HoldsConversion, converting, proven_in, variable_for}
+use Rattle.sdcl.specs.Converting.{IsProofOf, IsConvertible, HoldsConversion, converting, proven_in}
 use Rattle.sdcl.proofs.Roles.{err_not_proof, out_not_proof, formula_not_proof, some_same}
-use Rattle.sdcl.proofs.Later.{later_on, calm_after}
+use Rattle.sdcl.proofs.Later.{calm_after}
 use Rattle.sdcl.proofs.Streams.{OnlyReads, one_read, reads_on, read_nothing_made, keeps_reading}
 use Rattle.sdcl.proofs.Making.{made_more, keeps_made, output_since, unmade}
 use Rattle.sdcl.proofs.Checked.{judged}

@@ -1,5 +1,5 @@
 -- What the making of proof and journal and the solving together did.
-use Rattle.std.proofs.Common.{◌≡◌, ◌∙◌, ◌⊎◌, inl, inr, ℕ, Bool, true, false, List, [], Option, Some, None, Result, Ok, Err, IfSome, IsTrue, IfOk, IfErr, OnErr, refl, sym, ap, subst, arith}
+use Rattle.std.proofs.Common.{◌≡◌, ◌∙◌, ◌⊎◌, inl, inr, ℕ, Bool, true, false, List, [], Option, Some, None, Result, Ok, Err, IfSome, IsTrue, IfOk, IfErr, OnErr, refl, sym, subst, arith}
 use Rattle.std.specs.Prelude.{⊤, is_some}
 use Rattle.sdcl_base.specs.Literal.{Clause}
 use Rattle.sdcl_io.specs.declared.world.OutRole.{OutRole}
@@ -19,11 +19,11 @@ use Rattle.sdcl.specs.declared.refusal.Trouble.TheVariants as trouble
 use Rattle.sdcl.specs.declared.refusal.Refusal.{Refusal}
 use Rattle.sdcl.specs.declared.refusal.Refusal.TheVariants.{Usage, Memory, At}
 use Rattle.sdcl.specs.Commands.{AreDifferent}
-use Rattle.sdcl.specs.Meaning.{OnlyMade, IsMade, IsUnmade, OutputHas, OutputRefuses}
+use Rattle.sdcl.specs.Meaning.{OnlyMade, IsMade, OutputHas, OutputRefuses}
 use Rattle.sdcl.specs.Refusals.{blamed}
-use Rattle.sdcl.specs.Creating.{CreatesWhere, FailsWriting, WriteFailed, place_for}
+use Rattle.sdcl.specs.Creating.{CreatesWhere, FailsWriting, place_for}
 use Rattle.sdcl.specs.Proving.{AreMade, AreToWrite, AreToMake, IsBegun, IsProofMade, Proves, WritesPath, WritesRun, journal_out, outputs_of, rules}
-use Rattle.sdcl.proofs.Later.{later_on, calm_after}
+use Rattle.sdcl.proofs.Later.{calm_after}
 use Rattle.sdcl.proofs.Roles.{proof_not_journal, journal_not_proof, some_same}
 use Rattle.sdcl.proofs.Making.{IsNew, IsRefusal, is_new, stays_new, made_on, made_more, made_created, making_ok, making_err}
 

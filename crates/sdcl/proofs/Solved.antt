@@ -1,12 +1,12 @@
 -- What the phases of `solve` together did.
-use Rattle.std.proofs.Common.{◌≡◌, ◌∙◌, ◌⊎◌, inl, inr, ℕ, Bool, List, [], Option, Some, None, Result, Ok, Err, IfSome, IsTrue, refl, sym, subst}
+use Rattle.std.proofs.Common.{◌≡◌, ◌∙◌, ◌⊎◌, inl, inr, ℕ, Bool, List, Option, Some, None, Result, Ok, Err, IfSome, IsTrue, refl, sym, subst}
 use Rattle.std.specs.Prelude.{⊤, is_some}
 use Rattle.sdcl_store.specs.Stores.{clauses_in}
 use Rattle.sdcl_base.specs.Literal.{Clause}
 use Rattle.sdcl_io.specs.declared.world.InRole.TheVariants as input
 use Rattle.sdcl_io.specs.declared.world.OutRole.{OutRole}
 use Rattle.sdcl_io.specs.declared.world.OutRole.TheVariants as output
-use Rattle.sdcl_io.specs.World.{Seen, OnlyRead, Unchanged, Calm}
+use Rattle.sdcl_io.specs.World.{Seen, OnlyRead, Unchanged}
 use Rattle.sdcl_io.specs.Step.{All, End}
 use Rattle.sdcl_io.proofs.Refuted.{verified_law}
 use Rattle.sdcl_journal.specs.Machine.{steps}
@@ -26,7 +26,7 @@ use Rattle.sdcl.specs.Proving.{AreMade, AreToWrite, AreToMake, IsBegun, IsProofM
 use Rattle.sdcl.specs.Verdicts.{CanPrint}
 use Rattle.sdcl.specs.Starting.{IsFresh, MadeNothing}
 use Rattle.sdcl.specs.Meaning.{KeepsRest, OnlyMade, Performs, IsShown, IsToWrite, IsToMake, AnyOutputHas, OutputRefuses}
-use Rattle.sdcl.specs.Solving.{AreRefutation, HasBegun, HoldsPath, IsSolved, solving, verdict_of_answer}
+use Rattle.sdcl.specs.Solving.{AreRefutation, HasBegun, HoldsPath, solving, verdict_of_answer}
 use Rattle.sdcl.proofs.Roles.{err_not_proof, err_not_journal, out_not_proof, out_not_journal, some_same}
 use Rattle.sdcl.proofs.Streams.{OnlyReads, one_read}
 use Rattle.sdcl.proofs.Making.{made_more, keeps_made, output_since, unmade}

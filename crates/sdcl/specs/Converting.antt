@@ -1,5 +1,5 @@
 -- The command `convert`.
-use Rattle.std.specs.Prelude.{◌≡◌, ◌⊎◌, ◌≤◌, ◌<◌, true, ℕ, List, [], ◌∷◌, None, Some, length, IsTrue}
+use Rattle.std.specs.Prelude.{◌≡◌, ◌⊎◌, ◌≤◌, ◌<◌, true, ℕ, List, [], ◌∷◌, None, IsTrue}
 use Rattle.sdcl_base.specs.Literal.{Clause}
 use Rattle.sdcl_base.specs.Truth.{Unsatisfiable}
 use Rattle.sdcl_base.specs.declared.lit.TheConstants.{MAX_VARIABLE}

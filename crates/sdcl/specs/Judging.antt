@@ -1,5 +1,5 @@
 -- What the judging of a proof did.
-use Rattle.std.specs.Prelude.{◌≡◌, ⊤, ℕ, Bool, false, List, [], ◌++◌, length, Option, None, Some, IsSome, Result, IfOk, IfErr, ◌∷◌}
+use Rattle.std.specs.Prelude.{◌≡◌, ⊤, ℕ, Bool, false, List, [], ◌++◌, length, Option, None, Some, IsSome, Result, IfOk, IfErr}
 use Rattle.std.specs.List.{list_any}
 use Rattle.sdcl_base.specs.Literal.{Clause}
 use Rattle.sdcl_base.specs.Truth.{Unsatisfiable}

@@ -1,4 +1,4 @@
-use Rattle.std.proofs.Common.{◌≡◌, ◌∙◌, IsTrue, [], None, refl, sym, ap, subst, rules}
+use Rattle.std.proofs.Common.{◌≡◌, ◌∙◌, IsTrue, [], None, sym, subst, rules}
 use Rattle.sdcl_io.specs.declared.world.OutRole.TheVariants as output
 use Rattle.sdcl_io.specs.World.{Rose}
 use Rattle.sdcl_store.specs.Stores.{clauses_in}
