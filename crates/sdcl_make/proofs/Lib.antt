@@ -1,0 +1,6 @@
+pub mod Counting
+pub mod Places
+pub mod Joining
+pub mod Ranging
+pub mod Forms
+pub mod Lengths
