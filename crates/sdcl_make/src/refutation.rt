@@ -91,14 +91,14 @@ fn push_changes_of(
     Ok(())
 }
 
-// No pigeon is in the hole.
-fn push_units(holes: u32, hole: u32, text: &mut Vec<u8>) -> Result<(), NoMemory>
+// No pigeon is in the last hole.
+fn push_units(holes: u32, last: u32, text: &mut Vec<u8>) -> Result<(), NoMemory>
     requires few { holes ≤ MOST_HOLES }
-    requires hole { (2 ≤ hole) × (hole ≤ holes) }
-    ensures { OnOk result (text.new.items ≡ text.old.items ++ text_of (units holes hole)) }
+    requires last { (2 ≤ last) × (last ≤ holes) }
+    ensures { OnOk result (text.new.items ≡ text.old.items ++ text_of (units holes last)) }
 {
-    for pigeon in 1..hole + 1 {
-        push_line(text, &[puts(holes, pigeon, hole).negated()], &[])?;
+    for pigeon in 1..last + 1 {
+        push_line(text, &[puts(holes, pigeon, last).negated()], &[])?;
     }
     Ok(())
 }

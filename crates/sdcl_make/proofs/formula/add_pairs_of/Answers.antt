@@ -1,4 +1,4 @@
-use Rattle.std.proofs.Common.{◌≡◌, ◌∙◌, ◌≤◌, ◌<◌, ◌+◌, ◌++◌, ◌∷◌, [], length, ap, ap₂, arith, refl, ◌-◌, map}
+use Rattle.std.proofs.Common.{◌≡◌, ◌∙◌, ◌+◌, ◌-◌, ◌∷◌, [], length, map, ap, ap₂, arith, refl}
 use Rattle.sdcl_base.specs.Literal.{neg_lit, negated}
 use Rattle.sdcl_store.specs.Stores.{with_clause}
 use Rattle.sdcl_make.specs.Pigeons.{seat, pair_of}

@@ -28,4 +28,4 @@ pub returns-clause-steps : goal.returns-clause-steps
 returns-clause-steps c =
     ap (proof_text Pr PROOF_LIMIT) (returns-clause-text c)
     ∙ round_trip Pr PROOF_LIMIT (pigeon_proof c.args.holes)
-    (proof_formed c.args.holes c.requires.0 c.requires.1) (proof_fits c.args.holes c.requires.1)
+    (proof_formed c.args.holes c.requires.1) (proof_fits c.args.holes c.requires.1)

@@ -11,9 +11,9 @@ loop-pigeon-init c = text_none c.args.text.now.items
 
 pub loop-pigeon-preserved : goal.loop-pigeon-preserved
 loop-pigeon-preserved c =
-    let f = unit_line c.args.holes c.args.hole in
+    let f = unit_line c.args.holes c.args.last in
     let pigeon = c.loop-pigeon.pigeon in
-    let out : c.negated.result ≡ neg_lit (seat c.args.holes pigeon c.args.hole) =
+    let out : c.negated.result ≡ neg_lit (seat c.args.holes pigeon c.args.last) =
         c.negated.ensures ∙ ap negated c.puts.ensures in
     c.in_ok-push_line.ensures ∙ ap (λ l. c.loop-pigeon.text.items ++ line (Add (l ∷ []))) out
     ∙ ap (λ t. t ++ line (f pigeon)) c.loop-pigeon.invariant
