@@ -4,3 +4,4 @@ pub mod Joining
 pub mod Ranging
 pub mod Forms
 pub mod Lengths
+pub mod Tallies
