@@ -1,8 +1,8 @@
 -- The variables of the formula are in their range.
 use Rattle.std.proofs.Common.{◌≡◌, ◌≤◌, ◌<◌, ◌+◌, ◌*◌, ◌-◌, inl, inr}
-use Rattle.std.proofs.Common.{ℕ, zero, suc, List, [], ◌∷◌, ◌++◌, map, ap, subst, sym, arith}
-use Rattle.std.specs.List.{flat_map, range_with_len}
-use Rattle.sdcl_base.specs.Literal.{Literal, Clause, pos_lit, neg_lit}
+use Rattle.std.proofs.Common.{ℕ, zero, suc, ap, subst, arith}
+use Rattle.std.specs.List.{range_with_len}
+use Rattle.sdcl_base.specs.Literal.{Literal, pos_lit}
 use Rattle.sdcl_base.specs.Sets.{In, WithinVariables}
 use Rattle.sdcl_base.proofs.In.{in_append_cases, in_map_from, in_flat_map_from}
 use Rattle.sdcl_make.specs.Pigeons.{seat, home_of, homes, pair_of, pairs_of, pairs_in, pairs}
@@ -26,16 +26,16 @@ seat_ranged : (holes i j : ℕ) (l : Literal) → l.var ≡ seat holes i j → I
     → IsCounted 1 holes j → (1 ≤ l.var) × (l.var ≤ holes * (holes + 1))
 seat_ranged holes i j l e pigeon hole =
     let most = seat_within holes i j pigeon.low (omega (arith, pigeon.high))
-        (omega (arith, hole.high)) in
+    (omega (arith, hole.high)) in
     (omega (arith, e, hole.low), omega (arith, e, most))
 
 homes_ranged : (holes : ℕ) → WithinVariables (holes * (holes + 1)) (homes holes)
 homes_ranged holes d l i k =
     let r : (p : ℕ) × In (range_with_len 1 (holes + 1)) p × (d ≡ home_of holes p) =
-        in_map_from (home_of holes) (range_with_len 1 (holes + 1)) d i in
+    in_map_from (home_of holes) (range_with_len 1 (holes + 1)) d i in
     let q : (j : ℕ) × In (range_with_len 1 holes) j × (l ≡ pos_lit (seat holes r.0 j)) =
-        in_map_from (λ j. pos_lit (seat holes r.0 j)) (range_with_len 1 holes) l
-        (subst (λ c. In c l) r.2 k) in
+    in_map_from (λ j. pos_lit (seat holes r.0 j)) (range_with_len 1 holes) l
+    (subst (λ c. In c l) r.2 k) in
     seat_ranged holes r.0 q.0 l (ap (λ m. m.var) q.2) (counted (holes + 1) 1 r.0 r.1)
     (counted holes 1 q.0 q.1)
 
@@ -52,12 +52,12 @@ pairs_ranged : (holes : ℕ) → WithinVariables (holes * (holes + 1)) (pairs ho
 pairs_ranged holes d l i k =
     let all = range_with_len 1 holes in
     let r : (j : ℕ) × In all j × In (pairs_in holes j) d =
-        in_flat_map_from (pairs_in holes) all d i in
+    in_flat_map_from (pairs_in holes) all d i in
     let q : (p : ℕ) × In all p × In (pairs_of holes r.0 p) d =
-        in_flat_map_from (pairs_of holes r.0) all d r.2 in
+    in_flat_map_from (pairs_of holes r.0) all d r.2 in
     let later = range_with_len (q.0 + 1) (holes + 1 - q.0) in
     let s : (o : ℕ) × In later o × (d ≡ pair_of holes r.0 q.0 o) =
-        in_map_from (pair_of holes r.0 q.0) later d q.2 in
+    in_map_from (pair_of holes r.0 q.0) later d q.2 in
     let hole = counted holes 1 r.0 r.1 in
     let pigeon = counted holes 1 q.0 q.1 in
     let other = counted (holes + 1 - q.0) (q.0 + 1) s.0 s.1 in

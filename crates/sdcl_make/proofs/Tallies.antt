@@ -1,6 +1,6 @@
 -- How many clauses the formula has, and how many lines of each kind its proof.
-use Rattle.std.proofs.Common.{◌≡◌, ◌∙◌, ◌≤◌, ◌<◌, ◌+◌, ◌*◌, ◌-◌, ◌/◌, ℕ, zero, suc}
-use Rattle.std.proofs.Common.{Bool, true, false, cond, List, [], ◌∷◌, ◌++◌, map, length}
+use Rattle.std.proofs.Common.{◌≡◌, ◌∙◌, ◌≤◌, ◌+◌, ◌*◌, ◌-◌, ◌/◌, ℕ, zero, suc}
+use Rattle.std.proofs.Common.{Bool, cond, List, [], ◌∷◌, ◌++◌, map, length}
 use Rattle.std.proofs.Common.{refl, sym, ap, arith, length-append, suc-mul}
 use Rattle.std.specs.List.{flat_map, range_with_len, count_by}
 use Rattle.std.proofs.Math.Nat.{mul-div_cancel_left}
@@ -9,9 +9,9 @@ use Rattle.std.proofs.lemmas.List.Sums.{sum_by-append}
 use Rattle.std.proofs.lemmas.List.FromFn.{length-map-range_with_len}
 use Rattle.sdcl_base.specs.Literal.{Clause}
 use Rattle.sdcl_io.specs.Step.{Step, Add, adds_empty}
-use Rattle.sdcl_make.specs.Pigeons.{home_of, homes, pair_of, pairs_of, pairs_in, pairs, pigeons}
+use Rattle.sdcl_make.specs.Pigeons.{home_of, homes, pair_of, pairs_of, pairs_in, pairs}
 use Rattle.sdcl_make.specs.Pigeons.{change_line, changes_of, changes, unit_line, units}
-use Rattle.sdcl_make.specs.Pigeons.{hole_lines, lines_down, pigeon_proof}
+use Rattle.sdcl_make.specs.Pigeons.{hole_lines, lines_down}
 use Rattle.sdcl_make.specs.Counts.{adds_witness, adds_unit}
 use Rattle.sdcl_make.specs.Counts.{CountsClauses, CountsWitnesses, CountsUnits, CountsEmpty}
 use Rattle.sdcl_make.proofs.Counting.{counted_more}
@@ -36,9 +36,13 @@ count_first holes j zero h = omega arith
 count_first holes j (suc n) h =
     let before = flat_map (pairs_of holes j) (range_with_len 1 n) in
     let more : length (flat_map (pairs_of holes j) (range_with_len 1 (suc n)))
-        ≡ length before + (holes - n) =
-        omega (arith, ap length (flat_last (pairs_of holes j) n),
-        length-append before (pairs_of holes j (1 + n)), count_pairs_of holes j (1 + n)) in
+    ≡ length before + (holes - n) =
+    omega (
+      arith,
+      ap length (flat_last (pairs_of holes j) n),
+      length-append before (pairs_of holes j (1 + n)),
+      count_pairs_of holes j (1 + n),
+    ) in
     let square : suc n * suc n ≡ n * n + 2 * n + 1 = grind arith in
     let row : suc n * (2 * holes + 1) ≡ n * (2 * holes + 1) + (2 * holes + 1) = grind arith in
     omega (arith, more, square, row, count_first holes j n (omega arith))
@@ -68,9 +72,9 @@ counts_clauses holes =
     let n = length (pairs holes) in
     let product : holes * holes * (holes + 1) ≡ holes * (holes * (holes + 1)) = grind arith in
     let twice : 2 * n ≡ holes * holes * (holes + 1) =
-        omega (arith, count_holes holes holes 1, product) in
+    omega (arith, count_holes holes holes 1, product) in
     let half : n ≡ holes * holes * (holes + 1) / 2 =
-        sym (mul-div_cancel_left n (omega arith)) ∙ ap (λ m. m / 2) twice in
+    sym (mul-div_cancel_left n (omega arith)) ∙ ap (λ m. m / 2) twice in
     omega (
       arith,
       length-append (homes holes) (pairs holes),
@@ -117,7 +121,7 @@ tally_hole : (p : Step → Bool) (x y holes n : ℕ)
     → count_by p (hole_lines holes n) ≡ n * ((n - 1) * x) + n * y
 tally_hole p x y holes n h k =
     let row : (i : ℕ) → count_by p (changes_of holes n i) ≡ (n - 1) * x =
-        λ i. tally_map p (change_line holes n i) x (n - 1) 1 (h i) in
+    λ i. tally_map p (change_line holes n i) x (n - 1) 1 (h i) in
     omega (
       arith,
       tally_append p (changes holes n) (units holes n),
@@ -146,12 +150,12 @@ down_witnesses holes (suc (suc n)) =
     let less : suc n - 1 ≡ n = omega arith in
     let fewer : suc (suc n) - 1 ≡ n + 1 = omega arith in
     let e : suc (suc n) * ((suc (suc n) - 1) * 1) ≡ (n + 2) * (n + 1) =
-        ap (λ k. suc (suc n) * (k * 1)) fewer ∙ two_of n in
+    ap (λ k. suc (suc n) * (k * 1)) fewer ∙ two_of n in
     let f : (suc n + 1) * suc n * (suc n - 1) ≡ (n + 2) * (n + 1) * n =
-        ap (λ k. (suc n + 1) * suc n * k) less ∙ below_of n in
+    ap (λ k. (suc n + 1) * suc n * k) less ∙ below_of n in
     let g : (suc (suc n) + 1) * suc (suc n) * (suc (suc n) - 1)
-        ≡ 3 * ((n + 2) * (n + 1)) + (n + 2) * (n + 1) * n =
-        ap (λ k. (suc (suc n) + 1) * suc (suc n) * k) fewer ∙ three_of n in
+    ≡ 3 * ((n + 2) * (n + 1)) + (n + 2) * (n + 1) * n =
+    ap (λ k. (suc (suc n) + 1) * suc (suc n) * k) fewer ∙ three_of n in
     omega (arith, tally_append adds_witness first (lines_down holes (suc n)), here, below, e, f, g)
 
 down_units : (holes n : ℕ) → 1 ≤ n
@@ -173,16 +177,21 @@ down_empty holes (suc (suc n)) =
     let first = hole_lines holes (suc (suc n)) in
     let here = tally_hole adds_empty 0 0 holes (suc (suc n)) (λ i j. refl) (λ i. refl) in
     let e : suc (suc n) * ((suc (suc n) - 1) * 0) ≡ 0 = grind arith in
-    omega (arith, tally_append adds_empty first (lines_down holes (suc n)), here, e,
-    down_empty holes (suc n))
+    omega (
+      arith,
+      tally_append adds_empty first (lines_down holes (suc n)),
+      here,
+      e,
+      down_empty holes (suc n),
+    )
 
 pub counts_witnesses : CountsWitnesses
 counts_witnesses holes some =
     let down = count_by adds_witness (lines_down holes holes) in
     let all = tally_append adds_witness (lines_down holes holes) (Add [] ∷ []) in
     let third : down ≡ (holes + 1) * holes * (holes - 1) / 3 =
-        sym (mul-div_cancel_left down (omega arith))
-        ∙ ap (λ m. m / 3) (down_witnesses holes holes) in
+    sym (mul-div_cancel_left down (omega arith))
+    ∙ ap (λ m. m / 3) (down_witnesses holes holes) in
     omega (arith, all, third)
 
 pub counts_units : CountsUnits
@@ -190,12 +199,15 @@ counts_units holes some =
     let down = count_by adds_unit (lines_down holes holes) in
     let all = tally_append adds_unit (lines_down holes holes) (Add [] ∷ []) in
     let twice : 2 * (down + 1) ≡ holes * (holes + 1) =
-        omega (arith, down_units holes holes some) in
+    omega (arith, down_units holes holes some) in
     let half : down + 1 ≡ holes * (holes + 1) / 2 =
-        sym (mul-div_cancel_left (down + 1) (omega arith)) ∙ ap (λ m. m / 2) twice in
+    sym (mul-div_cancel_left (down + 1) (omega arith)) ∙ ap (λ m. m / 2) twice in
     omega (arith, all, half)
 
 pub counts_empty : CountsEmpty
 counts_empty holes =
-    omega (arith, tally_append adds_empty (lines_down holes holes) (Add [] ∷ []),
-    down_empty holes holes)
+    omega (
+      arith,
+      tally_append adds_empty (lines_down holes holes) (Add [] ∷ []),
+      down_empty holes holes,
+    )

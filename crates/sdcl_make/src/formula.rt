@@ -36,6 +36,7 @@ fn add_homes(alloc: Global, holes: u32, store: &mut Store) -> Result<(), NoMemor
     ensures { OnOk result (store.new ≡ stored (holes * (holes + 1)) (homes holes)) }
 {
     let mut home = Vec::new(alloc);
+    // the pigeons below `pigeon` have their clauses
     for pigeon in 1..holes + 2 {
         set_home(holes, pigeon, &mut home)?;
         store.add(home.as_slice())?;
@@ -50,6 +51,7 @@ fn set_home(holes: u32, pigeon: u32, home: &mut Vec<Lit>) -> Result<(), NoMemory
     ensures { OnOk result (home.new.items ≡ home_of holes pigeon) }
 {
     home.clear();
+    // the clause has the holes below `hole`
     for hole in 1..holes + 1 {
         home.push(puts(holes, pigeon, hole)).map_err(|_| NoMemory)?;
     }
@@ -63,6 +65,7 @@ fn add_pairs(holes: u32, store: &mut Store) -> Result<(), NoMemory>
     requires room { length store.old.slots < 2 ^ 10 }
     ensures { OnOk result (store.new ≡ with_more store.old (pairs holes)) }
 {
+    // the holes below `hole` have their pairs
     for hole in 1..holes + 1 {
         add_pairs_in(holes, hole, store)?;
     }
@@ -77,6 +80,7 @@ fn add_pairs_in(holes: u32, hole: u32, store: &mut Store) -> Result<(), NoMemory
     requires room { length store.old.slots < 2 ^ 16 }
     ensures { OnOk result (store.new ≡ with_more store.old (pairs_in holes hole)) }
 {
+    // the pigeons below `pigeon` have their pairs
     for pigeon in 1..holes + 1 {
         add_pairs_of(holes, hole, pigeon, store)?;
     }
@@ -93,6 +97,7 @@ fn add_pairs_of(holes: u32, hole: u32, pigeon: u32, store: &mut Store) -> Result
     ensures { OnOk result (store.new ≡ with_more store.old (pairs_of holes hole pigeon)) }
 {
     let out = puts(holes, pigeon, hole).negated();
+    // the pigeon has its pairs with those below `other`
     for other in pigeon + 1..holes + 2 {
         store.add(&[out, puts(holes, other, hole).negated()])?;
     }

@@ -36,6 +36,7 @@ fn push_holes(holes: u32, text: &mut Vec<u8>) -> Result<(), NoMemory>
     requires { (1 ≤ holes) × (holes ≤ MOST_HOLES) }
     ensures { OnOk result (text.new.items ≡ text.old.items ++ text_of (lines_down holes holes)) }
 {
+    // what is still to come are the lines for the holes from `holes - gone` down
     for gone in 0..holes - 1 {
         push_hole(holes, holes - gone, text)?;
     }
@@ -58,6 +59,7 @@ fn push_changes(holes: u32, hole: u32, text: &mut Vec<u8>) -> Result<(), NoMemor
     requires hole { (2 ≤ hole) × (hole ≤ holes) }
     ensures { OnOk result (text.new.items ≡ text.old.items ++ text_of (changes holes hole)) }
 {
+    // the pigeons below `pigeon` have their lines
     for pigeon in 1..hole + 1 {
         push_changes_of(holes, hole, pigeon, text)?;
     }
@@ -65,12 +67,7 @@ fn push_changes(holes: u32, hole: u32, text: &mut Vec<u8>) -> Result<(), NoMemor
 }
 
 // The changes of a pigeon in the last hole with the last pigeon, in each of the other holes.
-fn push_changes_of(
-    holes: u32,
-    last: u32,
-    pigeon: u32,
-    text: &mut Vec<u8>,
-) -> Result<(), NoMemory>
+fn push_changes_of(holes: u32, last: u32, pigeon: u32, text: &mut Vec<u8>) -> Result<(), NoMemory>
     requires few { holes ≤ MOST_HOLES }
     requires last { (2 ≤ last) × (last ≤ holes) }
     requires pigeon { (1 ≤ pigeon) × (pigeon ≤ last) }
@@ -79,6 +76,7 @@ fn push_changes_of(
 {
     let out = puts(holes, pigeon, last).negated();
     let other_moved = puts(holes, last + 1, last);
+    // the holes below `hole` have their lines
     for hole in 1..last {
         let other_out = puts(holes, last + 1, hole).negated();
         let moved = puts(holes, pigeon, hole);
@@ -97,6 +95,7 @@ fn push_units(holes: u32, last: u32, text: &mut Vec<u8>) -> Result<(), NoMemory>
     requires last { (2 ≤ last) × (last ≤ holes) }
     ensures { OnOk result (text.new.items ≡ text.old.items ++ text_of (units holes last)) }
 {
+    // the pigeons below `pigeon` have their lines
     for pigeon in 1..last + 1 {
         push_line(text, &[puts(holes, pigeon, last).negated()], &[])?;
     }
