@@ -16,8 +16,8 @@ use crate::place::puts;
 use sdcl_base::NoMemory;
 use std::alloc::Global;
 
-/// The text of the proof with witnesses that refutes the formula of so many holes. It is within the
-/// limit of proofs, and is read as the steps of which it is the text.
+/// The text of the proof, with witnesses, of the formula of so many holes. It is within the limit of
+/// proofs, and is read as the steps of which it is the text.
 pub fn pigeon_proof(alloc: Global, holes: u32) -> Result<Vec<u8>, NoMemory>
     requires { (1 ≤ holes) × (holes ≤ MOST_HOLES) }
     ensures text { IfOk result (λ text. text.items ≡ text_of (pigeon_proof holes)) }
