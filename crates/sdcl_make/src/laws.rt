@@ -1,5 +1,5 @@
-//! Laws on the formula and its proof. Each is the contract of a function that does nothing: a caller
-//! that names it has the law.
+//! Laws on the formula and its proof. Each is the contract of a function that does nothing: a
+//! caller that names it has the law.
 ghost use Rattle.std.specs.Prelude.{◌≡◌};
 ghost use Rattle.sdcl_base.specs.Examples.{f32};
 ghost use Rattle.sdcl_io.specs.Step.{All, End, Verified, judge};
