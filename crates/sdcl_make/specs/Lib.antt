@@ -1,0 +1,3 @@
+pub mod Pigeons
+pub mod Stored
+pub mod Counts
