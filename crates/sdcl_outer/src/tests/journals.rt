@@ -430,8 +430,9 @@ const TIGHT: Given = Given {
     },
 };
 
-// A run, the place of a change, the change, and where the changed journal is refused. All but one of the guards of what
-// comes there hold, where that can be.
+// A run, the place of a change, the change, and where the changed journal is refused. There is a row for each guard,
+// but for four that follow from the others: the turn of a decision, the conflict and the range of a clause that is
+// learned there, and that one learned with a witness is new.
 const CHANGES: [(Given, usize, Change, u64); 43] = [
     // decisions: of a literal that propagation reached, or whose complement it did; out of range; twice; with the
     // attempt left out; where a clause is false; where Back is due
