@@ -5,6 +5,10 @@ ghost use Rattle.sdcl_io.specs.World.{Rose};
 ghost use Rattle.sdcl_base.specs.Sets.{WithinVariables};
 ghost use Rattle.sdcl_store.specs.Stores.{clauses_in};
 
+mod journals;
+mod machine;
+mod sets;
+
 use crate::{Answer, Options, SolveError, solve};
 use sdcl_base::{Lit, NoMemory, ReductMode};
 use sdcl_io::{Discard, Failed, ProofOut};

@@ -106,6 +106,56 @@ fn tried(
     Ok(bench)
 }
 
+// The positive reduct, which the bench lends too.
+fn positive_of(
+    alloc: Global,
+    bench: &Bench,
+    place: &Place,
+    decisions: u32,
+) -> Result<Vec<u32>, Fail> {
+    let lent = bench.positive(alloc)?;
+    let plain = positive(alloc, place.formula, place.set, decisions)?;
+    if lent.as_slice() != plain.as_slice() {
+        return Err(Fail::from("the positive reduct differs"));
+    }
+    Ok(plain)
+}
+
+// The filtered reduct, which the bench lends too. It has a model where there is a witness.
+fn filtered_of(
+    alloc: Global,
+    bench: Bench,
+    place: &Place,
+    decisions: u32,
+) -> Result<(Bench, Vec<u32>), Fail> {
+    let (bench, lent) = bench.filtered(alloc)?;
+    let plain = filtered(alloc, place.formula, place.set, decisions)?;
+    if lent.as_slice() != plain.as_slice() {
+        return Err(Fail::from("the filtered reduct differs"));
+    }
+    if has_model(plain.as_slice()) != has_witness(place.formula, place.set, place.clause) {
+        return Err(Fail::from("a model is no witness"));
+    }
+    Ok((bench, plain))
+}
+
+// Attempts in both modes.
+fn tried_twice(
+    alloc: Global,
+    bench: Bench,
+    inner_budget: u64,
+    place: &Place,
+    by_trail: &[u32],
+    by_probes: &[u32],
+    counts: &mut Counts,
+) -> Result<(), Fail> {
+    let mode = ReductMode::Positive;
+    let bench = tried(alloc, bench, mode, inner_budget, place, by_trail, counts)?;
+    let mode = ReductMode::Filtered;
+    let _bench = tried(alloc, bench, mode, inner_budget, place, by_probes, counts)?;
+    Ok(())
+}
+
 fn compared(
     alloc: Global,
     bench: Bench,
@@ -119,37 +169,17 @@ fn compared(
         set: mask_of(bench.lits()),
         clause: complements(decisions),
     };
-    let by_trail = positive(alloc, place.formula, place.set, decisions)?;
-    if bench.positive(alloc)?.as_slice() != by_trail.as_slice() {
-        return Err(Fail::from("the positive reduct differs"));
-    }
-    let by_probes = filtered(alloc, place.formula, place.set, decisions)?;
-    let (bench, lent) = bench.filtered(alloc)?;
-    if lent.as_slice() != by_probes.as_slice() {
-        return Err(Fail::from("the filtered reduct differs"));
-    }
-    if has_model(by_probes.as_slice()) != has_witness(place.formula, place.set, place.clause) {
-        return Err(Fail::from("a model is no witness"));
-    }
-    let bench = tried(
+    let by_trail = positive_of(alloc, &bench, &place, decisions)?;
+    let (bench, by_probes) = filtered_of(alloc, bench, &place, decisions)?;
+    tried_twice(
         alloc,
         bench,
-        ReductMode::Positive,
         inner_budget,
         &place,
         by_trail.as_slice(),
-        counts,
-    )?;
-    let _bench = tried(
-        alloc,
-        bench,
-        ReductMode::Filtered,
-        inner_budget,
-        &place,
         by_probes.as_slice(),
         counts,
-    )?;
-    Ok(())
+    )
 }
 
 #[test]
