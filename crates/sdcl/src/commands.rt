@@ -132,7 +132,7 @@ fn solving<'w>(
     ensures plan { MatchOption result
         (solve_plan formula.now (text_of_name proof.entry) (text_of_name journal.entry) ≡ None)
         (λ c. solve_plan formula.now (text_of_name proof.entry) (text_of_name journal.entry)
-            ≡ Some (plan_in c)) }
+        ≡ Some (plan_in c)) }
     ensures apart { IfSome result (λ c. AreApart (plan_in c)) }
 {
     if are_apart(formula, proof, journal) {

@@ -22,10 +22,16 @@ pub fn solve<W: World>(
     journal: Option<&str>,
 ) -> Result<Verdict, Refusal>
     requires fresh { IsFresh (W.seen world.old) }
-    requires apart { AreApart (Solve (record { formula = formula.now;
-        proof = text_of_name proof; journal = text_of_name journal })) }
-    ensures performs { Performs (solving (record { formula = formula.now;
-        proof = text_of_name proof.entry; journal = text_of_name journal.entry }))
+    requires apart { AreApart (Solve (record {
+      formula = formula.now;
+      proof = text_of_name proof;
+      journal = text_of_name journal;
+    })) }
+    ensures performs { Performs (solving (record {
+      formula = formula.now;
+      proof = text_of_name proof.entry;
+      journal = text_of_name journal.entry;
+    }))
         (W.seen world.old) (W.seen world.new) result }
     ensures follows { W.follows world.old world.new }
 {

@@ -8,13 +8,7 @@ const ALL: [&str; 4] = ["solve", "f", "p", "--journal=j"];
 
 // A formula's text, and the status, the output, the proof and the journal that it gives.
 const RUNS: [(&[u8], u8, &[u8], &[u8], &[u8]); 7] = [
-    (
-        b"p cnf 0 0\n",
-        10,
-        b"s SATISFIABLE\nv 0\n",
-        b"",
-        b"model\n",
-    ),
+    (b"p cnf 0 0\n", 10, b"s SATISFIABLE\nv 0\n", b"", b"model\n"),
     (
         b"p cnf 1 1\n0\n",
         20,
