@@ -34,8 +34,9 @@ pub enum Command<'w> {
 // What stands before the name of a journal.
 const JOURNAL: &str = "--journal=";
 
-/// The command that the words are: `solve`, the names of the formula and perhaps of the proof, and perhaps a last word
-/// `--journal=NAME`; `check` or `drat` and two names; or `convert` and three. What is written has a name of its own.
+/// The command that the words are: `solve`, the names of the formula and perhaps of the proof, and
+/// perhaps a last word `--journal=NAME`; `check` or `drat` and two names; or `convert` and three.
+/// What is written has a name of its own.
 pub fn command_of(words: &[String]) -> Option<Command<'_>>
     ensures plan { MatchOption result (plan_of words.now ≡ None)
         (λ c. plan_of words.now ≡ Some (plan_in c)) }
@@ -148,7 +149,8 @@ fn solving<'w>(
 
 // Whether what is written has a name of its own.
 fn are_apart(formula: &str, proof: Option<&str>, journal: Option<&str>) -> bool
-    ensures { result ≡ spec.are_apart formula.now (text_of_name proof.entry) (text_of_name journal.entry) }
+    ensures { result ≡ spec.are_apart formula.now (text_of_name proof.entry)
+        (text_of_name journal.entry) }
 {
     !has_name(proof, formula) && !has_name(journal, formula) && !is_same(journal, proof)
 }

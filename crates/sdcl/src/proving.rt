@@ -31,8 +31,9 @@ pub fn prove<W: World>(
     requires within { WithinVariables loaded.variables (clauses_in loaded.store) }
     requires room { length loaded.store.slots + BUDGET + INNER_BUDGET < ID_LIMIT }
     requires apart { AreDifferent (text_of_name proof) (text_of_name journal) }
-    ensures proves { Proves (text_of_name proof.entry) (text_of_name journal.entry) loaded.variables BUDGET
-        (clauses_in loaded.store) (W.seen world.old) (W.seen world.new) result }
+    ensures proves { Proves (text_of_name proof.entry) (text_of_name journal.entry)
+        loaded.variables BUDGET (clauses_in loaded.store)
+        (W.seen world.old) (W.seen world.new) result }
     ensures follows { W.follows world.old world.new }
 {
     create(world, Place::Proof, OutRole::Proof, proof)?;

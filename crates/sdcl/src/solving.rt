@@ -13,7 +13,8 @@ use sdcl_io::World;
 use sdcl_outer::Answer;
 use std::alloc::Global;
 
-/// Reads the formula, and solves it with its proof and its journal written on the way, each where it is named.
+/// Reads the formula, and solves it with its proof and its journal written on the way, each where it
+/// is named.
 pub fn solve<W: World>(
     alloc: Global,
     world: &mut W,

@@ -1,6 +1,5 @@
 pub mod Refuted
 pub mod Modelled
-pub mod LongRuns
 pub mod Settled
 pub mod Following
 pub mod Guards
