@@ -14,9 +14,11 @@ use crate::loading::Loaded;
 use crate::options::{BUDGET, DEPTH, INNER_BUDGET};
 use crate::refusal::{Place, Refusal, Trouble, blame};
 use sdcl_base::ReductMode;
+use sdcl_decide::DecideKind;
 use sdcl_io::{OutRole, World};
 use sdcl_journal::RunFiles;
 use sdcl_outer::{Answer, Options, SolveError, solve};
+use sdcl_restart::RestartKind;
 use std::alloc::Global;
 
 /// Creates the proof and then the journal, each where it is named, and solves.
@@ -91,6 +93,8 @@ fn solve_into_files<W: World>(
         reduct: ReductMode::Filtered,
         depth: DEPTH,
         inner_budget: INNER_BUDGET,
+        decide: DecideKind::Static,
+        restart: RestartKind::Never,
     };
     let mut sink = RunFiles::new(world, proof, journal);
     match solve(alloc, store, variables, &options, &mut sink) {

@@ -13,9 +13,11 @@ ghost use Rattle.sdcl_outer.specs.Errors.{error_of, rules_of};
 
 use crate::turning::turn;
 use sdcl_base::{Assignment, ReductMode};
+use sdcl_decide::DecideKind;
 use sdcl_inner::search::Search;
 use sdcl_io::{Failed, ProofOut};
 use sdcl_journal::JournalOut;
+use sdcl_restart::RestartKind;
 use sdcl_store::Store;
 use sdcl_witness::Witness;
 use std::alloc::Global;
@@ -32,6 +34,10 @@ pub struct Options {
     pub depth: u32,
     /// The greatest number of clauses to learn on a reduct.
     pub inner_budget: u64,
+    /// The rule by which a variable is decided.
+    pub decide: DecideKind,
+    /// The rule by which restarts are due.
+    pub restart: RestartKind,
 }
 
 /// How the solver ended.

@@ -11,8 +11,10 @@ mod sets;
 
 use crate::{Answer, Options, SolveError, solve};
 use sdcl_base::{Lit, NoMemory, ReductMode};
+use sdcl_decide::DecideKind;
 use sdcl_io::{Discard, Failed, ProofOut};
 use sdcl_journal::{Event, JournalOut};
+use sdcl_restart::RestartKind;
 use sdcl_store::Store;
 use std::alloc::{AllocError, Global};
 use std::process::Abort;
@@ -287,6 +289,8 @@ fn options(reduct: ReductMode, budget: u64, depth: u32, inner_budget: u64) -> Op
         reduct,
         depth,
         inner_budget,
+        decide: DecideKind::Static,
+        restart: RestartKind::Never,
     }
 }
 

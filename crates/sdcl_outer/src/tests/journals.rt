@@ -7,7 +7,9 @@ use super::sets::bit;
 use super::{EITHER, TWO_HOLES, ending, store_of};
 use crate::{Options, solve};
 use sdcl_base::{Lit, ReductMode};
+use sdcl_decide::DecideKind;
 use sdcl_journal::{Event, Recorder};
+use sdcl_restart::RestartKind;
 use std::alloc::Global;
 use std::process::Abort;
 use std::test::Fail;
@@ -181,6 +183,8 @@ fn options_at(row: u32, inner_budget: u64) -> Options {
         },
         depth: if row < 9 { 0 } else { 20 },
         inner_budget,
+        decide: DecideKind::Static,
+        restart: RestartKind::Never,
     }
 }
 
@@ -321,6 +325,8 @@ const USUAL: Options = Options {
     reduct: ReductMode::Filtered,
     depth: 20,
     inner_budget: 1000,
+    decide: DecideKind::Static,
+    restart: RestartKind::Never,
 };
 
 // Decide 1, LearnWitness -1 by -1, Back 0, Decide 2, NoWitness, Decide 3, Model.
@@ -339,6 +345,8 @@ const POSITIVE: Given = Given {
         reduct: ReductMode::Positive,
         depth: 20,
         inner_budget: 1000,
+        decide: DecideKind::Static,
+        restart: RestartKind::Never,
     },
 };
 
@@ -351,6 +359,8 @@ const HASTY: Given = Given {
         reduct: ReductMode::Positive,
         depth: 20,
         inner_budget: 0,
+        decide: DecideKind::Static,
+        restart: RestartKind::Never,
     },
 };
 
@@ -363,6 +373,8 @@ const SHALLOW: Given = Given {
         reduct: ReductMode::Filtered,
         depth: 0,
         inner_budget: 1000,
+        decide: DecideKind::Static,
+        restart: RestartKind::Never,
     },
 };
 
@@ -382,6 +394,8 @@ const SPENT: Given = Given {
         reduct: ReductMode::Filtered,
         depth: 20,
         inner_budget: 1000,
+        decide: DecideKind::Static,
+        restart: RestartKind::Never,
     },
 };
 
@@ -394,6 +408,8 @@ const BROKE: Given = Given {
         reduct: ReductMode::Filtered,
         depth: 20,
         inner_budget: 0,
+        decide: DecideKind::Static,
+        restart: RestartKind::Never,
     },
 };
 
@@ -402,6 +418,8 @@ const PLAIN: Options = Options {
     reduct: ReductMode::Off,
     depth: 20,
     inner_budget: 1000,
+    decide: DecideKind::Static,
+    restart: RestartKind::Never,
 };
 
 // Decide 1, Decide 2, Decide 3, Model.
@@ -427,6 +445,8 @@ const TIGHT: Given = Given {
         reduct: ReductMode::Positive,
         depth: 20,
         inner_budget: 0,
+        decide: DecideKind::Static,
+        restart: RestartKind::Never,
     },
 };
 
