@@ -7,6 +7,7 @@ use Rattle.sdcl_base.specs.Reduct.{reduct, HasModel, Long, is_off}
 use Rattle.sdcl_base.specs.Redundancy.{rup, pr, is_new}
 use Rattle.sdcl_io.specs.Step.{Step, Add, AddWitness, Delete, remove_clause}
 use Rattle.sdcl_base.specs.declared.mode.ReductMode.{ReductMode}
+use Rattle.sdcl_store.specs.Analysis.{Analysed}
 
 -- what a run is given: the number of variables, and the options that bind it
 pub record Rules : Type 0 where
@@ -122,7 +123,7 @@ pub record MayTry (r : Rules) (s : RunState) : Type 0 where
   pub turn : IsTrue (may_search s.turn)
   pub due : IsTrue (attempt_due r s)
 
--- a clause may be learned at a conflict
+-- a clause may be learned at a conflict: it is what analysis gives there
 pub record MayLearn (r : Rules) (s : RunState) (c : Clause) : Type 0 where
   pub turn : IsTrue (may_search s.turn)
   pub conflict : IsTrue (is_refuted s)
@@ -131,6 +132,7 @@ pub record MayLearn (r : Rules) (s : RunState) (c : Clause) : Type 0 where
   pub false_here : IsTrue (falsified (reached s) c)
   pub is_rup : IsTrue (rup (database s) c)
   pub fresh : IsTrue (is_new (database s) c)
+  pub analysed : Analysed (database s) s.decisions c
   pub within : s.learned_count < r.budget
 
 -- the clause of the decisions may be learned with a witness

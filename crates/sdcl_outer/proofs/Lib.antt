@@ -12,3 +12,5 @@ pub mod Stepping
 pub mod Turned
 pub mod Outcomes
 pub mod Solved
+pub mod Thinning
+pub mod Shedding

@@ -1,12 +1,13 @@
-//! The solver's loop over a formula: unit propagation with watched literals, decisions in the order of the variables,
-//! attempts to find a witness, and a learned clause at each conflict and for each witness.
+//! The solver's loop over a formula: unit propagation with watched literals, decisions by one of three rules, attempts to
+//! find a witness, a learned clause at each conflict and for each witness, restarts, and reductions of what was learned.
 #![tactic(auto)]
 
 pub mod attempted;
 pub mod attempting;
 mod deciding;
 mod descending;
-mod learning;
+mod forgetting;
+mod guiding;
 mod recording;
 mod seeking;
 pub mod solving;

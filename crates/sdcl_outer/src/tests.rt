@@ -411,6 +411,31 @@ fn runs_tell_their_steps_and_events(rt: HostRuntime) -> Result<(), Fail> {
             [].as_slice(),
             [1, 1, 2, 1, 2, 3, 2, 1, 3, 9].as_slice(),
         ),
+        // what analysis gives: as long as the decisions, shorter, and where a decision plays no part
+        (
+            [-1, -2, 3, 0, -1, -2, -3, 0].as_slice(),
+            3,
+            plain,
+            10,
+            [-2, -1, 0].as_slice(),
+            [1, 1, 1, 2, 4, -2, -1, 0, 6, 1, 1, 3, 9].as_slice(),
+        ),
+        (
+            [-1, 2, 0, -2, 3, 0, -2, -3, 0].as_slice(),
+            3,
+            plain,
+            10,
+            [-2, 0].as_slice(),
+            [1, 1, 4, -2, 0, 6, 0, 1, 3, 9].as_slice(),
+        ),
+        (
+            [-1, 2, 0, -3, 4, 0, -1, -2, -3, -4, 0].as_slice(),
+            4,
+            plain,
+            10,
+            [-3, -1, 0].as_slice(),
+            [1, 1, 1, 3, 4, -3, -1, 0, 6, 1, 1, 4, 9].as_slice(),
+        ),
     ];
     for (numbers, variables, options, ends, steps, events) in cases {
         let told = run(&rt, alloc, numbers, variables, &options)?;

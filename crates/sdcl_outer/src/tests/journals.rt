@@ -14,7 +14,7 @@ use std::alloc::Global;
 use std::process::Abort;
 use std::test::Fail;
 
-const FORMULAS: u32 = 120;
+const FORMULAS: u32 = 60;
 
 fn set_of(lits: &[Lit]) -> u32 {
     let mut set = 0;
@@ -169,6 +169,7 @@ impl Generator {
     }
 }
 
+// The options of a row: each rule of decisions stands beside each rule of restarts, and both beside each mode.
 fn options_at(row: u32, inner_budget: u64) -> Options {
     Options {
         budget: match row % 3 {
@@ -181,10 +182,18 @@ fn options_at(row: u32, inner_budget: u64) -> Options {
             1 => ReductMode::Positive,
             _ => ReductMode::Filtered,
         },
-        depth: if row < 9 { 0 } else { 20 },
+        depth: if row % 18 < 9 { 0 } else { 20 },
         inner_budget,
-        decide: DecideKind::Static,
-        restart: RestartKind::Never,
+        decide: match row / 18 % 3 {
+            0 => DecideKind::Static,
+            1 => DecideKind::MoveToFront,
+            _ => DecideKind::Scored,
+        },
+        restart: match row / 54 {
+            0 => RestartKind::Never,
+            1 => RestartKind::Luby,
+            _ => RestartKind::Glue,
+        },
     }
 }
 
@@ -227,7 +236,7 @@ fn judge_all(
     inner_budget: u64,
     counts: &mut [u32; 10],
 ) -> Result<(), Fail> {
-    for row in 0..18u32 {
+    for row in 0..162u32 {
         let given = Given {
             numbers,
             variables,
