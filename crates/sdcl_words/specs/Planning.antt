@@ -5,12 +5,14 @@ use Rattle.std.specs.Str.{bytes_eq}
 use Rattle.std.specs.declared.string.String.{String}
 use Rattle.std.specs.declared.alloc.Global.{Global}
 use Rattle.clap.specs.Words.{Row, Text, first_of}
+use Rattle.sdcl_base.specs.declared.lit.TheConstants.{MAX_VARIABLE}
 use Rattle.sdcl_base.specs.declared.mode.ReductMode.{ReductMode}
 use Rattle.sdcl_base.specs.declared.mode.ReductMode.TheVariants.{Off, Positive, Filtered}
 use Rattle.sdcl_decide.specs.declared.decider.DecideKind.{DecideKind}
 use Rattle.sdcl_decide.specs.declared.decider.DecideKind.TheVariants.{Static, MoveToFront, Scored}
 use Rattle.sdcl_restart.specs.declared.restart.RestartKind.{RestartKind}
 use Rattle.sdcl_restart.specs.declared.restart.RestartKind.TheVariants.{Never, Luby, Glue}
+use Rattle.sdcl_make.specs.declared.formula.TheConstants.{MOST_HOLES}
 use Rattle.sdcl_outer.specs.declared.solving.Options.{Options}
 use Rattle.sdcl_words.specs.Plans.{Names, SolveNames, Plan, Solve, Check, Drat, Convert, Drill}
 use Rattle.sdcl_words.specs.Plans.{are_apart}
@@ -32,6 +34,10 @@ decisions =
 abbrev pub restarts : List (Text × RestartKind)
 restarts = (codes "none", Never) ∷ (codes "luby", Luby) ∷ (codes "glue", Glue) ∷ []
 
+-- the greatest budget of learned clauses
+abbrev pub most_learned : ℕ
+most_learned = 1000000000
+
 -- what comes of a value, where there is one
 abbrev pub with_value : {T U : Type 0} → Option T → (T → Option U) → Option U
 with_value value next = option_and_then next value
@@ -39,10 +45,10 @@ with_value value next = option_and_then next value
 -- each option by its name, its values and its default
 abbrev pub options_given : List Row → Option Options
 options_given rows =
-    with_value (number_option (codes "budget") 0 1000000000 10000000 rows) (λ budget.
+    with_value (number_option (codes "budget") 0 most_learned 10000000 rows) (λ budget.
     with_value (word_option (codes "reduct") reducts Filtered rows) (λ reduct.
-    with_value (number_option (codes "depth") 0 4194303 20 rows) (λ depth.
-    with_value (number_option (codes "inner-budget") 0 1000000000 1000 rows) (λ inner_budget.
+    with_value (number_option (codes "depth") 0 MAX_VARIABLE 20 rows) (λ depth.
+    with_value (number_option (codes "inner-budget") 0 most_learned 1000 rows) (λ inner_budget.
     with_value (word_option (codes "decide") decisions Static rows) (λ decide.
     with_value (word_option (codes "restart") restarts Never rows) (λ restart.
     Some (record {
@@ -89,7 +95,7 @@ convert_planned rows = with_value (input_names rows) (λ names.
     then Some (Convert names output) else None))
 
 abbrev pub drill_planned : List Row → Option Plan
-drill_planned rows = option_map (λ holes. Drill holes) (wanted_number (codes "holes") 1 32 rows)
+drill_planned rows = option_map (λ holes. Drill holes) (wanted_number (codes "holes") 1 MOST_HOLES rows)
 
 -- ---- the words
 

@@ -22,23 +22,18 @@ fn with<'a>(command: Command<'a>, arg: Arg<'a>) -> Result<Command<'a>, AllocErro
 }
 
 // A command with one argument more, which has to be there.
-fn wanting<'a>(
-    alloc: Global,
-    command: Command<'a>,
-    id: &'a str,
-) -> Result<Command<'a>, AllocError>
+fn wanting<'a>(alloc: Global, command: Command<'a>, id: &'a str) -> Result<Command<'a>, AllocError>
     ensures { IfOk result (λ c.
         app_of c ≡ with_argument (app_of command.entry) (wanted_rule id.entry.now)) }
 {
-    with(command, Arg::new(alloc, id).required(true).action(ArgAction::Set))
+    with(
+        command,
+        Arg::new(alloc, id).required(true).action(ArgAction::Set),
+    )
 }
 
 // A command with one argument more, which may be missing.
-fn allowing<'a>(
-    alloc: Global,
-    command: Command<'a>,
-    id: &'a str,
-) -> Result<Command<'a>, AllocError>
+fn allowing<'a>(alloc: Global, command: Command<'a>, id: &'a str) -> Result<Command<'a>, AllocError>
     ensures { IfOk result (λ c.
         app_of c ≡ with_argument (app_of command.entry) (optional_rule id.entry.now)) }
 {
@@ -122,11 +117,7 @@ fn command_for<'a>(alloc: Global, verb: Verb) -> Result<Command<'a>, AllocError>
 }
 
 /// The arguments of a command that the words give.
-pub fn read<'a>(
-    alloc: Global,
-    verb: Verb,
-    words: &'a [String],
-) -> Result<ArgMatches<'a>, PlanError>
+pub fn read<'a>(alloc: Global, verb: Verb, words: &'a [String]) -> Result<ArgMatches<'a>, PlanError>
     ensures taken { IfOk result (λ m.
         rows_taken (app_for verb) words.now ≡ Some (rows_of (found_of m))) }
     ensures refused { IsErrOf result PlanError.Usage

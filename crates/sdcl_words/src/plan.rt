@@ -15,9 +15,15 @@ pub enum Plan {
         options: Options,
     },
     /// Check the proof of the formula.
-    Check { formula: Name, proof: Name },
+    Check {
+        formula: Name,
+        proof: Name,
+    },
     /// Check the DRAT proof of the formula.
-    Drat { formula: Name, proof: Name },
+    Drat {
+        formula: Name,
+        proof: Name,
+    },
     /// Convert the proof of the formula, and write the DRAT proof.
     Convert {
         formula: Name,
@@ -25,7 +31,9 @@ pub enum Plan {
         out: Name,
     },
     /// Make, check and convert the proof that one pigeon more than there are holes does not fit.
-    Drill { holes: u32 },
+    Drill {
+        holes: u32,
+    },
 }
 
 /// Why there is no plan.

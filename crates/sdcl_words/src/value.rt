@@ -18,11 +18,7 @@ fn text_at<'a>(matches: &ArgMatches<'a>, id: &str) -> Option<&'a str>
 }
 
 /// The name that an argument gives, if it does.
-pub fn name_at(
-    alloc: Global,
-    matches: &ArgMatches<'_>,
-    id: &str,
-) -> Result<Option<Name>, PlanError>
+pub fn name_at(alloc: Global, matches: &ArgMatches<'_>, id: &str) -> Result<Option<Name>, PlanError>
     ensures value { IfOk result (λ name. name ≡ first_of id.now (rows_of (found_of matches.now))) }
     ensures memory { IsErrOf result PlanError.Usage → ⊥ }
 {
