@@ -23,16 +23,17 @@ use Rattle.sdcl_words.specs.Taking.{app_for, rows_taken}
 
 -- ---- the options of `solve`
 
-abbrev pub reducts : List (Text × ReductMode)
-reducts =
+-- the words that an option takes, each with what it stands for
+abbrev pub reduct_words : List (Text × ReductMode)
+reduct_words =
     (codes "off", Off) ∷ (codes "positive", Positive) ∷ (codes "filtered", Filtered) ∷ []
 
-abbrev pub decisions : List (Text × DecideKind)
-decisions =
+abbrev pub decide_words : List (Text × DecideKind)
+decide_words =
     (codes "static", Static) ∷ (codes "front", MoveToFront) ∷ (codes "scored", Scored) ∷ []
 
-abbrev pub restarts : List (Text × RestartKind)
-restarts = (codes "none", Never) ∷ (codes "luby", Luby) ∷ (codes "glue", Glue) ∷ []
+abbrev pub restart_words : List (Text × RestartKind)
+restart_words = (codes "none", Never) ∷ (codes "luby", Luby) ∷ (codes "glue", Glue) ∷ []
 
 -- the greatest budget of learned clauses
 abbrev pub most_learned : ℕ
@@ -46,11 +47,11 @@ with_value value next = option_and_then next value
 abbrev pub options_given : List Row → Option Options
 options_given rows =
     with_value (number_option (codes "budget") 0 most_learned 10000000 rows) (λ budget.
-    with_value (word_option (codes "reduct") reducts Filtered rows) (λ reduct.
+    with_value (word_option (codes "reduct") reduct_words Filtered rows) (λ reduct.
     with_value (number_option (codes "depth") 0 MAX_VARIABLE 20 rows) (λ depth.
     with_value (number_option (codes "inner-budget") 0 most_learned 1000 rows) (λ inner_budget.
-    with_value (word_option (codes "decide") decisions Static rows) (λ decide.
-    with_value (word_option (codes "restart") restarts Never rows) (λ restart.
+    with_value (word_option (codes "decide") decide_words Static rows) (λ decide.
+    with_value (word_option (codes "restart") restart_words Never rows) (λ restart.
     Some (record {
       budget = budget;
       reduct = reduct;
@@ -76,26 +77,30 @@ input_names rows = with_value (first_of (codes "cnf") rows) (λ formula.
     with_value (first_of (codes "proof") rows) (λ proof.
     Some (record { formula = formula; proof = proof })))
 
+-- a check of a PR proof, and of a DRAT proof
 abbrev pub check_planned : List Row → Option Plan
 check_planned rows = option_map (λ names. Check names) (input_names rows)
 
 abbrev pub drat_planned : List Row → Option Plan
 drat_planned rows = option_map (λ names. Drat names) (input_names rows)
 
--- what is written has a name of its own
+-- a solving, where what is written has a name of its own
 abbrev pub solve_planned : List Row → Option Plan
 solve_planned rows = with_value (solve_names rows) (λ names.
     with_value (options_given rows) (λ options.
     if are_apart names then Some (Solve names options) else None))
 
+-- a conversion, where what is written has a name of its own
 abbrev pub convert_planned : List Row → Option Plan
 convert_planned rows = with_value (input_names rows) (λ names.
     with_value (first_of (codes "out") rows) (λ output.
     if not (bytes_eq output names.formula) && not (bytes_eq output names.proof)
     then Some (Convert names output) else None))
 
+-- a drill
 abbrev pub drill_planned : List Row → Option Plan
-drill_planned rows = option_map (λ holes. Drill holes) (wanted_number (codes "holes") 1 MOST_HOLES rows)
+drill_planned rows =
+    option_map (λ holes. Drill holes) (wanted_number (codes "holes") 1 MOST_HOLES rows)
 
 -- ---- the words
 

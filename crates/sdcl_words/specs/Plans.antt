@@ -1,6 +1,6 @@
 -- What the words of a command ask for.
 use Rattle.std.specs.Prelude.{◌≡◌, ⊤, ℕ, ◌≤◌, Bool, false, not, ◌&&◌, List, Option, Some, None}
-use Rattle.std.specs.Prelude.{IfSome}
+use Rattle.std.specs.Prelude.{IfSome, Result, Ok, Err}
 use Rattle.std.specs.Str.{bytes_eq}
 use Rattle.sdcl_base.specs.declared.lit.TheConstants.{MAX_VARIABLE}
 use Rattle.sdcl_make.specs.declared.formula.TheConstants.{MOST_HOLES}
@@ -8,6 +8,8 @@ use Rattle.sdcl_outer.specs.declared.solving.Options.{Options}
 use Rattle.sdcl_words.specs.declared.options.TheConstants.{MOST_LEARNED}
 use Rattle.sdcl_words.specs.declared.plan.Plan as declared
 use Rattle.sdcl_words.specs.declared.plan.Plan.TheVariants as plan
+use Rattle.sdcl_words.specs.declared.plan.PlanError.{PlanError}
+use Rattle.sdcl_words.specs.declared.plan.PlanError.TheVariants as error
 
 -- the files that a command reads
 pub record Names : Type 0 where
@@ -69,8 +71,7 @@ AreApart (Drat names) = ⊤
 AreApart (Convert names output) = (output ≡ names.formula → ⊥) × (output ≡ names.proof → ⊥)
 AreApart (Drill holes) = ⊤
 
--- ---- numbers within their ranges
-
+-- the numbers are within their ranges
 abbrev pub AreWithin : Plan → Type 0
 AreWithin (Solve names options) =
     (options.budget ≤ MOST_LEARNED)
@@ -80,3 +81,15 @@ AreWithin (Check names) = ⊤
 AreWithin (Drat names) = ⊤
 AreWithin (Convert names output) = ⊤
 AreWithin (Drill holes) = (1 ≤ holes) × (holes ≤ MOST_HOLES)
+
+-- ---- an answer
+
+-- the plan is the one that is wanted
+abbrev pub IsWanted : Option Plan → Plan → Type 0
+IsWanted wanted p = (wanted ≡ Some p) × AreApart p × AreWithin p
+
+-- the plan that is wanted is given, or there is none, or memory was not found
+abbrev pub Answers : Option Plan → Result declared.Plan PlanError → Type 0
+Answers wanted (Ok p) = IsWanted wanted (plan_in p)
+Answers wanted (Err error.Usage) = wanted ≡ None
+Answers wanted (Err error.NoMemory) = ⊤

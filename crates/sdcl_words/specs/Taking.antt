@@ -1,5 +1,6 @@
 -- Which words each command takes, as `clap` reads them.
-use Rattle.std.specs.Prelude.{List, [], ◌∷◌, ◌++◌, map, codes, Option, Some, None, true, fold, string_bytes}
+use Rattle.std.specs.Prelude.{List, [], ◌∷◌, ◌++◌, map, fold, codes, Option, Some, None, true}
+use Rattle.std.specs.Prelude.{string_bytes}
 use Rattle.std.specs.declared.string.String.{String}
 use Rattle.std.specs.declared.alloc.Global.{Global}
 use Rattle.clap.specs.Words.{App, Row, Rule, Text, matches_of, new_app, new_rule, with_rule}
@@ -43,6 +44,7 @@ abbrev pub word_rules : List Rule
 word_rules =
     option_rule (codes "reduct") ∷ option_rule (codes "decide") ∷ option_rule (codes "restart") ∷ []
 
+-- `solve`
 abbrev pub solve_app : App
 solve_app = app_with (wanted_rule (codes "cnf") ∷ optional_rule (codes "proof")
     ∷ option_rule (codes "journal") ∷ number_rules ++ word_rules)
@@ -51,10 +53,12 @@ solve_app = app_with (wanted_rule (codes "cnf") ∷ optional_rule (codes "proof"
 abbrev pub judge_app : App
 judge_app = app_with (wanted_rule (codes "cnf") ∷ wanted_rule (codes "proof") ∷ [])
 
+-- `convert`
 abbrev pub convert_app : App
-convert_app =
-    app_with (wanted_rule (codes "cnf") ∷ wanted_rule (codes "proof") ∷ wanted_rule (codes "out") ∷ [])
+convert_app = app_with (wanted_rule (codes "cnf") ∷ wanted_rule (codes "proof")
+    ∷ wanted_rule (codes "out") ∷ [])
 
+-- `drill`
 abbrev pub drill_app : App
 drill_app = app_with (wanted_rule (codes "holes") ∷ [])
 
@@ -66,6 +70,7 @@ app_for verb.Drat = judge_app
 app_for verb.Convert = convert_app
 app_for verb.Drill = drill_app
 
+-- the words as `clap` takes them
 abbrev pub word_texts : List (String Global) → List Text
 word_texts = map string_bytes
 

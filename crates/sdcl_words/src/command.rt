@@ -16,7 +16,8 @@ use std::alloc::{AllocError, Global};
 // A command with one argument more.
 fn with<'a>(command: Command<'a>, arg: Arg<'a>) -> Result<Command<'a>, AllocError>
     requires { arg.global ≡ false }
-    ensures { IfOk result (λ c. app_of c ≡ with_argument (app_of command.entry) (rule_of arg.entry)) }
+    ensures { IfOk result (λ c.
+        app_of c ≡ with_argument (app_of command.entry) (rule_of arg.entry)) }
 {
     command.arg(arg)
 }

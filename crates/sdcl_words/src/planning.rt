@@ -2,7 +2,7 @@
 ghost use Rattle.std.specs.Prelude.{◌≡◌, IfOk, IsErrOf, Some, None};
 ghost use Rattle.clap.specs.Words.{rows_of, found_of};
 ghost use Rattle.std.specs.Str.{bytes_eq};
-ghost use Rattle.sdcl_words.specs.Plans.{plan_in, AreApart, AreWithin};
+ghost use Rattle.sdcl_words.specs.Plans.{plan_in, Answers, AreApart, AreWithin};
 ghost use Rattle.sdcl_words.specs.Plans as spec;
 ghost use Rattle.sdcl_words.specs.Planning.{planned, planned_by, solve_planned, check_planned};
 ghost use Rattle.sdcl_words.specs.Planning.{drat_planned, convert_planned, drill_planned};
@@ -33,12 +33,7 @@ pub fn plan_of(alloc: Global, words: &[String]) -> Result<Plan, PlanError>
 
 // The plan of a command, by what its arguments give.
 fn plan_by(alloc: Global, verb: Verb, matches: &ArgMatches<'_>) -> Result<Plan, PlanError>
-    ensures plan { IfOk result (λ p.
-        planned_by verb (rows_of (found_of matches.now)) ≡ Some (plan_in p)) }
-    ensures apart { IfOk result (λ p. AreApart (plan_in p)) }
-    ensures within { IfOk result (λ p. AreWithin (plan_in p)) }
-    ensures none { IsErrOf result PlanError.Usage
-        → planned_by verb (rows_of (found_of matches.now)) ≡ None }
+    ensures { Answers (planned_by verb (rows_of (found_of matches.now))) result }
 {
     match verb {
         Verb::Solve => solve(alloc, matches),
@@ -51,12 +46,7 @@ fn plan_by(alloc: Global, verb: Verb, matches: &ArgMatches<'_>) -> Result<Plan, 
 
 // The solving that the arguments ask for, where what is written has a name of its own.
 fn solve(alloc: Global, matches: &ArgMatches<'_>) -> Result<Plan, PlanError>
-    ensures plan { IfOk result (λ p.
-        solve_planned (rows_of (found_of matches.now)) ≡ Some (plan_in p)) }
-    ensures apart { IfOk result (λ p. AreApart (plan_in p)) }
-    ensures within { IfOk result (λ p. AreWithin (plan_in p)) }
-    ensures none { IsErrOf result PlanError.Usage
-        → solve_planned (rows_of (found_of matches.now)) ≡ None }
+    ensures { Answers (solve_planned (rows_of (found_of matches.now))) result }
 {
     let formula = wanted_name(alloc, matches, "cnf")?;
     let proof = name_at(alloc, matches, "proof")?;
@@ -75,12 +65,7 @@ fn solve(alloc: Global, matches: &ArgMatches<'_>) -> Result<Plan, PlanError>
 }
 
 fn check(alloc: Global, matches: &ArgMatches<'_>) -> Result<Plan, PlanError>
-    ensures plan { IfOk result (λ p.
-        check_planned (rows_of (found_of matches.now)) ≡ Some (plan_in p)) }
-    ensures apart { IfOk result (λ p. AreApart (plan_in p)) }
-    ensures within { IfOk result (λ p. AreWithin (plan_in p)) }
-    ensures none { IsErrOf result PlanError.Usage
-        → check_planned (rows_of (found_of matches.now)) ≡ None }
+    ensures { Answers (check_planned (rows_of (found_of matches.now))) result }
 {
     let formula = wanted_name(alloc, matches, "cnf")?;
     let proof = wanted_name(alloc, matches, "proof")?;
@@ -88,12 +73,7 @@ fn check(alloc: Global, matches: &ArgMatches<'_>) -> Result<Plan, PlanError>
 }
 
 fn drat(alloc: Global, matches: &ArgMatches<'_>) -> Result<Plan, PlanError>
-    ensures plan { IfOk result (λ p.
-        drat_planned (rows_of (found_of matches.now)) ≡ Some (plan_in p)) }
-    ensures apart { IfOk result (λ p. AreApart (plan_in p)) }
-    ensures within { IfOk result (λ p. AreWithin (plan_in p)) }
-    ensures none { IsErrOf result PlanError.Usage
-        → drat_planned (rows_of (found_of matches.now)) ≡ None }
+    ensures { Answers (drat_planned (rows_of (found_of matches.now))) result }
 {
     let formula = wanted_name(alloc, matches, "cnf")?;
     let proof = wanted_name(alloc, matches, "proof")?;
@@ -102,12 +82,7 @@ fn drat(alloc: Global, matches: &ArgMatches<'_>) -> Result<Plan, PlanError>
 
 // The conversion that the arguments ask for, where what is written has a name of its own.
 fn convert(alloc: Global, matches: &ArgMatches<'_>) -> Result<Plan, PlanError>
-    ensures plan { IfOk result (λ p.
-        convert_planned (rows_of (found_of matches.now)) ≡ Some (plan_in p)) }
-    ensures apart { IfOk result (λ p. AreApart (plan_in p)) }
-    ensures within { IfOk result (λ p. AreWithin (plan_in p)) }
-    ensures none { IsErrOf result PlanError.Usage
-        → convert_planned (rows_of (found_of matches.now)) ≡ None }
+    ensures { Answers (convert_planned (rows_of (found_of matches.now))) result }
 {
     let formula = wanted_name(alloc, matches, "cnf")?;
     let proof = wanted_name(alloc, matches, "proof")?;
@@ -124,12 +99,7 @@ fn convert(alloc: Global, matches: &ArgMatches<'_>) -> Result<Plan, PlanError>
 }
 
 fn drill(matches: &ArgMatches<'_>) -> Result<Plan, PlanError>
-    ensures plan { IfOk result (λ p.
-        drill_planned (rows_of (found_of matches.now)) ≡ Some (plan_in p)) }
-    ensures apart { IfOk result (λ p. AreApart (plan_in p)) }
-    ensures within { IfOk result (λ p. AreWithin (plan_in p)) }
-    ensures none { IsErrOf result PlanError.Usage
-        → drill_planned (rows_of (found_of matches.now)) ≡ None }
+    ensures { Answers (drill_planned (rows_of (found_of matches.now))) result }
 {
     match wanted_number(matches, "holes", 1, u64::from(MOST_HOLES)) {
         Some(holes) => Ok(Plan::Drill {

@@ -1,4 +1,4 @@
-use Rattle.std.proofs.Common.{sym, ◌∙◌, arith, rules}
+use Rattle.std.proofs.Common.{sym, ◌∙◌, arith}
 use Rattle.sdcl_words.proofs.Meaning.{this_row, later_row, no_row}
 use Rattle.sdcl_words.proofs.value.meant_by.Goals as goal
 
