@@ -1,0 +1,4 @@
+pub mod Plans
+pub mod Values
+pub mod Taking
+pub mod Planning
