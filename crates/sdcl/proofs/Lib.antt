@@ -1,6 +1,9 @@
 mod Formed
 pub mod Values
 pub mod Reading
+pub mod Counted
+pub mod Bench
+pub mod Drilled
 pub mod Roles
 pub mod Later
 pub mod Streams
