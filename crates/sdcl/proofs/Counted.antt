@@ -2,6 +2,7 @@
 use Rattle.std.proofs.Common.{rules, ◌≡◌, ◌∙◌, ◌≤◌, ◌<◌, ◌+◌, ◌-◌, ◌^◌, ℕ, Bool, true, false, cond, List, [], ◌∷◌, Option, Some, None, Result, Ok, Err, refl, sym, ap, subst, arith}
 use Rattle.std.specs.Prelude.{IsErrOf, IfErr, IfOk}
 use Rattle.std.specs.List.{count_by}
+use Rattle.std.proofs.lemmas.List.Sums.{sum_by-cons}
 use Rattle.sdcl_io.specs.World.{Rose}
 use Rattle.sdcl_io.specs.Reading.{Onward}
 use Rattle.sdcl_io.specs.Step.{Step, Ending, End, Fault, Over, adds_empty}
@@ -69,7 +70,8 @@ at_most_one true n m e = omega (arith, e)
 at_most_one false n m e = omega (arith, e)
 
 counted_on : (p : Step → Bool) (s : Step) (ss more : List Step) (all n m : ℕ) → ss ≡ s ∷ more → all ≡ n + count_by p ss → m ≡ and_one n (p s) → all ≡ m + count_by p more
-counted_on p s ss more all n m e h k = h ∙ ap (λ z. n + count_by p z) e ∙ one_more (p s) n m (count_by p more) k
+counted_on p s ss more all n m e h k =
+    h ∙ ap (λ z. n + count_by p z) e ∙ ap (λ z. n + z) (sum_by-cons (λ x. cond (p x) 1 0) s more) ∙ one_more (p s) n m (count_by p more) k
 
 sums_on : (t u v : Option ProofText) (s : Coded) (c d : Tally) → SumsTo t u c → IsNextStep u v (Some s) → TalliesOne (step_of s) c d → SumsTo t v d
 sums_on None u v s c d h k o = tt

@@ -87,7 +87,7 @@ lines_formed holes few enough =
       some = omega arith;
       enough = omega (arith, enough);
       formula = formula_within n most (pigeons holes) (all_ranged holes) (over_at_least n ss);
-      steps = steps_within n most ss (omega arith);
+      additions = steps_within n most ss (omega arith);
     })
 
 -- the converted proof is verified, where its text is within the limit

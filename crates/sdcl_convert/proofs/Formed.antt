@@ -188,14 +188,14 @@ read_apart f (s ∷ ss) x h k r =
     let y : ℕ = next_variable s x in
     let more : x ≤ y = next_more s x in
     read_on (lines_of All f x s) (cond (adds_empty s) [] (converted_apart All g ss y))
-    (read_lines f x (witnesses ss) s r.some (omega (arith, r.enough, first_and_rest s ss)) h r.formula k.0 r.steps.0)
+    (read_lines f x (witnesses ss) s r.some (omega (arith, r.enough, first_and_rest s ss)) h r.formula k.0 r.additions.0)
     (read_or_none (adds_empty s) (converted_apart All g ss y)
     (read_apart g ss y (subst AreClean (sym (step_leaves f x s r.formula)) (left_clean f s h k.0)) k.2
     (record {
       some = omega (arith, r.some, more);
       enough = omega (arith, r.enough, witnesses_first s ss x);
-      formula = after_below f g x y s r.formula r.steps.0 refl refl;
-      steps = steps_below_more x y ss more r.steps.1;
+      formula = after_below f g x y s r.formula r.additions.0 refl refl;
+      additions = steps_below_more x y ss more r.additions.1;
     })))
 
 pub formed_law : ApartFormed

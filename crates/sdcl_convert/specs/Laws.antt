@@ -91,11 +91,11 @@ abbrev pub AreClean : List Clause → Type 0
 AreClean f = (d : Clause) → In f d → IsClean d
 
 -- x and the variables behind it are enough for the proof's blocks, and above those of the formula and the additions
-pub record HasRoom (f : List Clause) (steps : List Step) (x : ℕ) : Type 0 where
+pub record HasRoom (f : List Clause) (ss : List Step) (x : ℕ) : Type 0 where
   pub some : 1 ≤ x
-  pub enough : x + witnesses steps ≤ MAX_VARIABLE + 1
+  pub enough : x + witnesses ss ≤ MAX_VARIABLE + 1
   pub formula : AllBelow x f
-  pub steps : StepsBelow x steps
+  pub additions : StepsBelow x ss
 
 -- Where the clauses are clean and the steps well-formed, so are the lines of the converted proof: their text is read as these lines.
 abbrev pub ApartFormed : Type 0
