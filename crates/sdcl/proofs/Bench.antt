@@ -7,6 +7,7 @@ use Rattle.sdcl_base.specs.declared.lit.NoMemory.{NoMemory}
 use Rattle.sdcl_io.specs.declared.memory.MemoryWorld.{MemoryWorld}
 use Rattle.sdcl_io.specs.declared.world.InRole.{InRole}
 use Rattle.sdcl_io.specs.declared.world.InRole.TheVariants.{Proof}
+use Rattle.sdcl_io.specs.declared.world.OutRole.{OutRole}
 use Rattle.sdcl_io.specs.declared.world.OutRole.TheVariants as output
 use Rattle.sdcl_io.specs.declared.world.Failed.{Failed}
 use Rattle.sdcl_io.specs.declared.world.Failed.TheVariants as failed
@@ -39,7 +40,7 @@ none_failed h k = record {
 }
 
 -- a count that stays at 0 did not rise
-no_rise : (m n : ℕ) → n ≡ m → m ≡ 0 → Rose m n → ⊥
+pub no_rise : (m n : ℕ) → n ≡ m → m ≡ 0 → Rose m n → ⊥
 no_rise m n e z h = omega (arith, e, z, h)
 
 -- ---- the bench
@@ -81,12 +82,12 @@ made_is_not_converted : made_name ≡ converted_name → ⊥
 made_is_not_converted e = cc
 
 -- it stays while the converted proof is made
-pub bench_made : {holes : ℕ} {name : List ℕ} {roles : output.OutRole → Type 0} {s t : Seen} → IsBench holes s → name ≡ converted_name → OnlyMade (λ n. n ≡ name) roles s t → SameCounts s t → IsBench holes t
+pub bench_made : {holes : ℕ} {name : List ℕ} {roles : OutRole → Type 0} {s t : Seen} → IsBench holes s → name ≡ converted_name → OnlyMade (λ n. n ≡ name) roles s t → SameCounts s t → IsBench holes t
 bench_made {holes} {name} h e o k = bench_later h o.later k (o.others h.tells made_name (λ q. made_is_not_converted (q ∙ e)))
 
 -- a told file was read, and no count has changed
 pub calm_read : {s t : Seen} (name text : List ℕ) → IsTrue s.calm → s.file name ≡ Some text → (IsSome (s.file name) → Calm s t) → SameCounts s t
-calm_read {s} {t} name text c e k = k (subst IsSome (sym e) tt) c
+calm_read {s} {t} name text c e k = k (subst IsSome (sym e) refl) c
 
 -- ---- what is told of a file
 

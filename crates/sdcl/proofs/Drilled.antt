@@ -69,7 +69,7 @@ judged_to_end k f (s ∷ ss) e h = turn_is_verdict (valid f s) (adds_empty s) (k
 judged_as_steps : (d : Dialect) (f : List Clause) (ss : List Step) → AreFormed d ss → length (text_of ss) ≤ PROOF_LIMIT → judgement d f (text_of ss) ≡ judge All f ss End
 judged_as_steps d f ss h k = ap (λ (t : ProofText). judge All f t.steps t.ending) (round_trip d PROOF_LIMIT ss h k)
 
-made_text : (holes : ℕ) → holes ≤ MOST_HOLES → steps_of Pr (text_of (pigeon_proof holes)) ≡ record { steps = pigeon_proof holes; ending = End }
+pub made_text : (holes : ℕ) → holes ≤ MOST_HOLES → steps_of Pr (text_of (pigeon_proof holes)) ≡ record { steps = pigeon_proof holes; ending = End }
 made_text holes few = round_trip Pr PROOF_LIMIT (pigeon_proof holes) (proof_formed holes few) (proof_fits holes few)
 
 pub made_ends : (holes : ℕ) → holes ≤ MOST_HOLES → NeverEnds (made_judgement holes)
@@ -94,7 +94,7 @@ lines_formed holes few enough =
 pub lines_verified : {holes lines : ℕ} {s : Seen} → holes ≤ MOST_HOLES → IsConvertedBench holes s lines → length (text_of (drill_lines holes)) ≤ PROOF_LIMIT → drilled_judgement holes ≡ Verified
 lines_verified {holes} few b short = judged_as_steps Drat (pigeons holes) (drill_lines holes) (lines_formed holes few b.enough) short ∙ b.refuted
 
-verified_never_ends : (j : Judgement) → j ≡ Verified → NeverEnds j
+pub verified_never_ends : (j : Judgement) → j ≡ Verified → NeverEnds j
 verified_never_ends j q e h = cc
 
 -- ---- the steps that are converted
@@ -109,7 +109,7 @@ made_steps holes steps (Some text) few e h =
     h ∙ ap (λ x. until_empty (steps_of Pr x).steps) q ∙ ap (λ (t : ProofText). until_empty t.steps) (made_text holes few) ∙ whole_proof holes
 
 -- the made proof, read and kept: these are its steps, wherever it is verified
-admitted_steps : (holes n : ℕ) (f : List Clause) (told left : Option (List ℕ)) (l : Kept) → holes ≤ MOST_HOLES → told ≡ Some (text_of (pigeon_proof holes)) → found_in l ≡ found.Verified
+pub admitted_steps : (holes n : ℕ) (f : List Clause) (told left : Option (List ℕ)) (l : Kept) → holes ≤ MOST_HOLES → told ≡ Some (text_of (pigeon_proof holes)) → found_in l ≡ found.Verified
     → (a : IsAdmitted n f told left l) → a.judged.steps ≡ pigeon_proof holes
 admitted_steps holes n f told left l few e v a = made_steps holes a.judged.steps told few e (read_steps a.judged.steps told left (a.judged.read_to v))
 

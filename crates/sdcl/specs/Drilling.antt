@@ -53,15 +53,15 @@ drilled_judgement holes = judgement Drat (pigeons holes) (text_of (drill_lines h
 
 -- ---- what it finds
 
--- each count is that of the formula, of its proof, or of the converted proof
-pub record AreCounted (holes : ℕ) (c : Counts) : Type 0 where
-  pub holes : c.holes ≡ holes
-  pub variables : c.variables ≡ holes * (holes + 1)
-  pub clauses : c.clauses ≡ length (pigeons holes)
-  pub witness : c.witness ≡ count_by adds_witness (pigeon_proof holes)
-  pub unit : c.unit ≡ count_by adds_unit (pigeon_proof holes)
-  pub empty : c.empty ≡ count_by adds_empty (pigeon_proof holes)
-  pub lines : c.lines ≡ length (drill_lines holes)
+-- each count is that of the formula of n holes, of its proof, or of the converted proof
+pub record AreCounted (n : ℕ) (c : Counts) : Type 0 where
+  pub holes : c.holes ≡ n
+  pub variables : c.variables ≡ n * (n + 1)
+  pub clauses : c.clauses ≡ length (pigeons n)
+  pub witness : c.witness ≡ count_by adds_witness (pigeon_proof n)
+  pub unit : c.unit ≡ count_by adds_unit (pigeon_proof n)
+  pub empty : c.empty ≡ count_by adds_empty (pigeon_proof n)
+  pub lines : c.lines ≡ length (drill_lines n)
 
 -- the counts are told, and both proofs are verified, so that no total assignment meets the formula
 pub record IsDone (holes : ℕ) (v : Verdict) : Type 0 where
@@ -183,15 +183,15 @@ pub record IsPigeons (holes : ℕ) (l : Loaded) : Type 0 where
   pub clauses : clauses_in l.store ≡ pigeons holes
   pub slots : length l.store.slots ≡ length (pigeons holes)
 
--- the counts are these
-pub record CountsAre (holes : ℕ) (formula : Loaded) (tally : Tally) (lines : ℕ) (c : Counts) : Type 0 where
-  pub holes : c.holes ≡ holes
+-- the counts are these, of n holes and m lines
+pub record CountsAre (n : ℕ) (formula : Loaded) (tally : Tally) (m : ℕ) (c : Counts) : Type 0 where
+  pub holes : c.holes ≡ n
   pub variables : c.variables ≡ formula.variables
   pub clauses : c.clauses ≡ length formula.store.slots
   pub witness : c.witness ≡ tally.witness
   pub unit : c.unit ≡ tally.unit
   pub empty : c.empty ≡ tally.empty
-  pub lines : c.lines ≡ lines
+  pub lines : c.lines ≡ m
 
 -- whether a file is there, and over the limit of proofs
 abbrev pub is_file_over : Option (List ℕ) → Bool

@@ -34,7 +34,7 @@ const CONVERTED: &str = "converted";
 /// The formula is made anew for each of these, since each takes it.
 pub fn drill(alloc: Global, holes: u32) -> Result<Verdict, Refusal>
     requires { AreHoles holes }
-    ensures drills { Drills holes result }
+    ensures { Drills holes result }
 {
     let mut world = bench(alloc, holes)?;
     let formula = formula_of(alloc, holes)?;
@@ -83,7 +83,7 @@ fn convert_made(alloc: Global, world: &mut MemoryWorld, holes: u32) -> Result<Ve
     requires holes { AreHoles holes }
     requires bench { IsBench holes (seen_of world.old) }
     requires judged { made_judgement holes ≡ Verified }
-    ensures drills { Drills holes result }
+    ensures { Drills holes result }
 {
     let formula = formula_of(alloc, holes)?;
     match admit(alloc, world, MADE, formula)? {
@@ -107,7 +107,7 @@ fn check_converted(
 ) -> Result<Verdict, Refusal>
     requires holes { AreHoles holes }
     requires bench { IsConvertedBench holes (seen_of world.old) lines }
-    ensures drills { Drills holes result }
+    ensures { Drills holes result }
 {
     if is_over(world) {
         let limit = PROOF_LIMIT;
