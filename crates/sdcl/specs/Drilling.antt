@@ -1,5 +1,6 @@
 -- The command `drill`: a pigeonhole formula with its proof, checked, converted, and checked again.
-use Rattle.std.specs.Prelude.{◌≡◌, ◌≤◌, ◌<◌, ◌⊎◌, ⊤, ℕ, nat_lt, ◌+◌, ◌*◌, Bool, true, false, List, [], ◌∷◌, length, Option, Some, None}
+use Rattle.std.specs.Prelude.{◌≡◌, ◌≤◌, ◌<◌, ◌⊎◌, ⊤, ℕ, nat_lt, ◌+◌, ◌*◌, Bool, true, false}
+use Rattle.std.specs.Prelude.{List, [], ◌∷◌, length, Option, Some, None}
 use Rattle.std.specs.Prelude.{IsTrue, IfOk, IfErr, Result, codes}
 use Rattle.std.specs.List.{count_by}
 use Rattle.sdcl_base.specs.Truth.{Unsatisfiable}
@@ -37,11 +38,19 @@ AreHoles holes = (1 ≤ holes) × (holes ≤ MOST_HOLES)
 
 -- the formula of so many holes, and its proof
 abbrev pub drill_proof : ℕ → Proven
-drill_proof holes = record { variables = holes * (holes + 1); formula = pigeons holes; steps = pigeon_proof holes }
+drill_proof holes = record {
+  variables = holes * (holes + 1);
+  formula = pigeons holes;
+  steps = pigeon_proof holes;
+}
 
 -- the converted proof
 abbrev pub drill_lines : ℕ → List Step
 drill_lines holes = lines_for (drill_proof holes)
+
+-- its greatest variable
+abbrev pub drill_variable : ℕ → ℕ
+drill_variable holes = needed (holes * (holes + 1)) (pigeon_proof holes)
 
 -- the judgement of the proof's text, over the formula
 abbrev pub made_judgement : ℕ → Judgement
@@ -72,9 +81,12 @@ pub record IsDone (holes : ℕ) (v : Verdict) : Type 0 where
   pub converted : drilled_judgement holes ≡ Verified
   pub unsatisfiable : Unsatisfiable (pigeons holes)
 
--- at this step the proof is not verified; or it is, and the converted proof is not verified at this step
+-- the proof is not verified at this step; or it is verified, and the converted proof is not, at
+-- this step
 abbrev pub IsFirstNo : ℕ → ℕ → Type 0
-IsFirstNo holes k = (made_judgement holes ≡ NotVerified k) ⊎ ((made_judgement holes ≡ Verified) × (drilled_judgement holes ≡ NotVerified k))
+IsFirstNo holes k =
+    (made_judgement holes ≡ NotVerified k)
+    ⊎ ((made_judgement holes ≡ Verified) × (drilled_judgement holes ≡ NotVerified k))
 
 -- a checker has said no, the first of the two that did
 pub record IsStopped (holes : ℕ) (v : Verdict) : Type 0 where
@@ -94,11 +106,11 @@ IsTooLong holes = PROOF_LIMIT < length (text_of (drill_lines holes))
 
 -- the conversion would need this variable, which is too great
 abbrev pub NeedsMore : ℕ → ℕ → Type 0
-NeedsMore holes n = (n ≡ needed (holes * (holes + 1)) (pigeon_proof holes)) × (MAX_VARIABLE < n)
+NeedsMore holes n = (n ≡ drill_variable holes) × (MAX_VARIABLE < n)
 
 -- neither
 abbrev pub IsWithinLimits : ℕ → Type 0
-IsWithinLimits holes = (IsTooLong holes → ⊥) × (needed (holes * (holes + 1)) (pigeon_proof holes) ≤ MAX_VARIABLE)
+IsWithinLimits holes = (IsTooLong holes → ⊥) × (drill_variable holes ≤ MAX_VARIABLE)
 
 -- the proofs of a drill, which stand in no file
 abbrev pub drill_texts : ℕ → Input
@@ -136,7 +148,7 @@ drilling holes = record {
   leaves = LeftAlone;
 }
 
--- the refusal is a limit that was met, or want of memory, which is free; the world has no part in it
+-- the refusal is a limit that was met, or want of memory, which is free; no world has a part in it
 abbrev pub RefusesDrill : ℕ → Refusal → Type 0
 RefusesDrill holes e = (s t : Seen) → InputRefuses (drill_texts holes) s t e
 
@@ -175,7 +187,7 @@ pub record IsConvertedBench (holes : ℕ) (s : Seen) (lines : ℕ) : Type 0 wher
   pub lines_are : lines ≡ length (drill_lines holes)
   pub judged : made_judgement holes ≡ Verified
   pub refuted : judge All (pigeons holes) (drill_lines holes) End ≡ Verified
-  pub enough : needed (holes * (holes + 1)) (pigeon_proof holes) ≤ MAX_VARIABLE
+  pub enough : drill_variable holes ≤ MAX_VARIABLE
 
 -- the formula, and its number of variables
 pub record IsPigeons (holes : ℕ) (l : Loaded) : Type 0 where

@@ -34,7 +34,9 @@ pub enum Command<'w> {
         output: &'w str,
     },
     /// Check the proof of a pigeonhole formula of so many holes, convert it, and check it again.
-    Drill { holes: u32 },
+    Drill {
+        holes: u32,
+    },
 }
 
 // What stands before the name of a journal.

@@ -1,12 +1,13 @@
-//! The command `drill`: a pigeonhole formula with its proof, checked, converted, and checked again, in a world of
-//! its own in memory.
+//! The command `drill`: a pigeonhole formula with its proof, checked, converted, and checked again,
+//! in a world of its own in memory.
 ghost use Rattle.std.specs.Prelude.{◌≡◌, ◌≤◌, IfOk, IfErr};
 ghost use Rattle.sdcl_base.specs.Sets.{WithinVariables};
 ghost use Rattle.sdcl_base.specs.declared.lit.TheConstants.{MAX_VARIABLE};
 ghost use Rattle.sdcl_io.specs.Memory.{seen_of, file_of};
 ghost use Rattle.sdcl_io.specs.Step.{Verified};
 ghost use Rattle.sdcl_store.specs.Stores.{clauses_in};
-ghost use Rattle.sdcl.specs.Drilling.{AreHoles, Drills, AreCounted, IsPigeons, IsBench, IsConvertedBench};
+ghost use Rattle.sdcl.specs.Drilling.{AreHoles, Drills, AreCounted, IsPigeons, IsBench};
+ghost use Rattle.sdcl.specs.Drilling.{IsConvertedBench};
 ghost use Rattle.sdcl.specs.Drilling.{made_judgement, is_file_over, converted_name, CountsAre};
 
 use crate::admitting::admit;
@@ -30,8 +31,8 @@ const MADE: &str = "made";
 // The name of the converted proof.
 const CONVERTED: &str = "converted";
 
-/// Makes the formula of so many holes and its proof, checks the proof, converts it, and checks the converted one.
-/// The formula is made anew for each of these, since each takes it.
+/// Makes the formula of so many holes and its proof, checks the proof, converts it, and checks the
+/// converted one. The formula is made anew for each of these, since each takes it.
 pub fn drill(alloc: Global, holes: u32) -> Result<Verdict, Refusal>
     requires { AreHoles holes }
     ensures { Drills holes result }
@@ -131,12 +132,7 @@ fn is_over(world: &MemoryWorld) -> bool
 }
 
 // Counts, where the converted proof has so many lines.
-fn count(
-    alloc: Global,
-    world: &mut MemoryWorld,
-    holes: u32,
-    lines: u64,
-) -> Result<Counts, Refusal>
+fn count(alloc: Global, world: &mut MemoryWorld, holes: u32, lines: u64) -> Result<Counts, Refusal>
     requires holes { AreHoles holes }
     requires bench { IsConvertedBench holes (seen_of world.old) lines }
     ensures ok { IfOk result (λ counts. AreCounted holes counts) }

@@ -3,9 +3,9 @@ use crate::tests::{NO_FILES, end, only};
 use sdcl_io::{CallKind, InRole, OutRole};
 use std::test::Fail;
 
-// The number of holes, and what is printed. By hand, for N holes: N (N + 1) variables, N + 1 + N N (N + 1) / 2
-// clauses, (N + 1) N (N - 1) / 3 steps with a witness, each of which becomes 4 N + 23 lines, and N (N + 1) / 2
-// others.
+// The number of holes, and what is printed. By hand, for N holes: N (N + 1) variables,
+// N + 1 + N N (N + 1) / 2 clauses, (N + 1) N (N - 1) / 3 steps with a witness, each of which becomes
+// 4 N + 23 lines, and N (N + 1) / 2 others.
 const DRILLS: [(&str, &[u8]); 6] = [
     (
         "1",
