@@ -1,6 +1,6 @@
 -- The world of a drill: what it holds while its proofs are judged and written, and that nothing fails there.
-use Rattle.std.proofs.Common.{◌≡◌, ◌∙◌, ◌≤◌, inl, inr, ℕ, true, List, [], ◌∷◌, Option, Some, None, Result, Ok, Err, IsTrue, IsSome, refl, sym, ap, subst, arith}
-use Rattle.std.specs.Prelude.{⊤, codes}
+use Rattle.std.proofs.Common.{◌≡◌, ◌∙◌, inl, inr, ℕ, List, [], ◌∷◌, Option, Some, None, Result, Ok, Err, IsTrue, IsSome, refl, sym, ap, subst, arith}
+use Rattle.std.specs.Prelude.{⊤}
 use Rattle.std.specs.Io.KnownBytes.{Keeps}
 use Rattle.sdcl_base.specs.Literal.{Clause}
 use Rattle.sdcl_base.specs.declared.lit.NoMemory.{NoMemory}
@@ -25,7 +25,7 @@ use Rattle.sdcl.specs.declared.refusal.Trouble.TheVariants as trouble
 use Rattle.sdcl.specs.declared.refusal.Refusal.{Refusal}
 use Rattle.sdcl.specs.declared.refusal.Refusal.TheVariants.{Usage, Memory, At}
 use Rattle.sdcl.specs.Judging.{JudgedAs, judgement, proof_over}
-use Rattle.sdcl.specs.Meaning.{InputHas, InputRefuses, OutputHas, AnyOutputHas, OutputRefuses, OnlyMade}
+use Rattle.sdcl.specs.Meaning.{InputHas, InputRefuses, AnyOutputHas, OutputRefuses, OnlyMade}
 use Rattle.sdcl.specs.Rewriting.{Rewrites, converted_out}
 use Rattle.sdcl.specs.Drilling.{HasNoFault, IsBench, IsConvertedBench, made_name, converted_name}
 

@@ -1,27 +1,20 @@
 -- What a drill finds.
-use Rattle.std.proofs.Common.{◌≡◌, ◌∙◌, ◌≤◌, ◌<◌, ◌+◌, ◌*◌, inl, inr, ℕ, suc, Bool, true, false, not, cond, List, [], ◌∷◌, ◌++◌, append-nil, length, Option, Some, None, Result, Ok, Err, IsTrue, refl, sym, ap, subst, arith}
-use Rattle.std.specs.Prelude.{nat_lt, IfOk, IfErr}
-use Rattle.std.proofs.lemmas.Bool.{le-ltb}
+use Rattle.std.proofs.Common.{◌≡◌, ◌∙◌, ◌≤◌, ◌<◌, ◌+◌, ◌*◌, inl, inr, ℕ, Bool, true, false, not, cond, List, [], ◌∷◌, append-nil, length, Option, Some, None, Ok, Err, refl, sym, ap, subst, arith}
 use Rattle.sdcl_base.specs.Literal.{Clause}
 use Rattle.sdcl_base.specs.Propagation.{refutes}
 use Rattle.sdcl_base.specs.declared.lit.TheConstants.{MAX_VARIABLE}
-use Rattle.sdcl_io.specs.declared.world.InRole.TheVariants.{Proof}
-use Rattle.sdcl_io.specs.World.{Seen, SameCounts}
+use Rattle.sdcl_io.specs.World.{Seen}
 use Rattle.sdcl_io.specs.Step.{Step, Add, All, End, Ending, Judgement, Verified, NotVerified, Ended, adds_empty, apply, valid, judge, judge_after, judge_end}
 use Rattle.sdcl_proof.specs.declared.step.Dialect.{Dialect}
 use Rattle.sdcl_proof.specs.declared.step.Dialect.TheVariants.{Pr, Drat}
 use Rattle.sdcl_proof.specs.declared.step_reader.TheConstants.{PROOF_LIMIT}
 use Rattle.sdcl_proof.specs.Lines.{text_of}
-use Rattle.sdcl_proof.specs.ProofText.{ProofText, proof_text}
+use Rattle.sdcl_proof.specs.ProofText.{ProofText}
 use Rattle.sdcl_proof.specs.RoundTrip.{AreFormed}
 use Rattle.sdcl_proof.proofs.RoundTrip.{round_trip}
-use Rattle.sdcl_store.specs.Stores.{clauses_in}
-use Rattle.sdcl_convert.specs.Checked.{Proven, needed, greatest_over}
-use Rattle.sdcl_convert.specs.Converting.{lines_for}
-use Rattle.sdcl_convert.specs.Loading.{found_in, KeepsProof}
-use Rattle.sdcl_convert.specs.declared.converting.Converted.{Converted}
+use Rattle.sdcl_convert.specs.Checked.{needed, greatest_over}
+use Rattle.sdcl_convert.specs.Loading.{found_in}
 use Rattle.sdcl_convert.specs.declared.loading.Loaded.{Loaded as Kept}
-use Rattle.sdcl_convert.specs.declared.loading.Loaded.TheVariants as kept
 use Rattle.sdcl_convert.proofs.Apart.{over_at_least, steps_within, formula_within}
 use Rattle.sdcl_convert.proofs.Formed.{formed_law}
 use Rattle.sdcl_make.specs.Pigeons.{pigeons, pigeon_proof, lines_down}
@@ -30,23 +23,18 @@ use Rattle.sdcl_make.proofs.Forms.{proof_formed}
 use Rattle.sdcl_make.proofs.Lengths.{proof_fits}
 use Rattle.sdcl_make.proofs.Ranging.{all_ranged}
 use Rattle.sdcl_make.proofs.Clauses.{clauses_clean, down_open}
-use Rattle.sdcl_prcheck.specs.declared.verdict.Verdict.{Verdict as Found}
 use Rattle.sdcl_prcheck.specs.declared.verdict.Verdict.TheVariants as found
-use Rattle.sdcl.specs.declared.loading.Loaded.{Loaded}
 use Rattle.sdcl.specs.declared.refusal.Place.TheVariants as place
 use Rattle.sdcl.specs.declared.refusal.Trouble.TheVariants as trouble
 use Rattle.sdcl.specs.declared.refusal.Refusal.{Refusal}
-use Rattle.sdcl.specs.declared.refusal.Refusal.TheVariants.{Usage, Memory, At}
-use Rattle.sdcl.specs.declared.verdict.Counts.{Counts}
-use Rattle.sdcl.specs.declared.verdict.Verdict.{Verdict}
+use Rattle.sdcl.specs.declared.refusal.Refusal.TheVariants.{Memory, At}
 use Rattle.sdcl.specs.declared.verdict.Verdict.TheVariants as verdict
-use Rattle.sdcl.specs.Judging.{Judges, judgement, judgement_in, steps_of, IsReadTo}
-use Rattle.sdcl.specs.Admitting.{AdmitsProof, IsAdmitted, AreProofSteps, until_empty}
-use Rattle.sdcl.specs.Rewriting.{Rewrites, HoldsWhole}
-use Rattle.sdcl.specs.Drilling.{AreHoles, drill_proof, drill_lines, made_judgement, drilled_judgement, made_name, converted_name}
-use Rattle.sdcl.specs.Drilling.{AreCounted, IsDone, IsTooLong, RefusesDrill, Drills, IsBench, IsConvertedBench, IsPigeons}
+use Rattle.sdcl.specs.Judging.{judgement, steps_of}
+use Rattle.sdcl.specs.Admitting.{IsAdmitted, AreProofSteps, until_empty}
+use Rattle.sdcl.specs.Drilling.{drill_lines, made_judgement, drilled_judgement}
+use Rattle.sdcl.specs.Drilling.{IsTooLong, RefusesDrill, Drills, IsConvertedBench}
 use Rattle.sdcl.proofs.Admitted.{read_steps, until_last}
-use Rattle.sdcl.proofs.Bench.{NeverEnds, judging_refused, told_as, calm_read, bench_read, bench_made}
+use Rattle.sdcl.proofs.Bench.{NeverEnds}
 
 -- ---- the judgements of the two texts
 

@@ -1,15 +1,13 @@
 -- What the steps of a drill together did.
-use Rattle.std.proofs.Common.{◌≡◌, ◌∙◌, ◌≤◌, ◌<◌, ◌+◌, ◌*◌, inl, ℕ, true, false, List, length, Option, Some, None, Result, Ok, Err, refl, sym, ap, subst}
-use Rattle.std.specs.Prelude.{IsErrOf, nat_lt}
-use Rattle.std.specs.List.{count_by}
+use Rattle.std.proofs.Common.{◌≡◌, ◌∙◌, ◌≤◌, ◌<◌, ◌+◌, ◌*◌, inl, ℕ, true, false, List, length, Option, Some, None, Result, Ok, Err, refl, ap, subst}
+use Rattle.std.specs.Prelude.{IsErrOf}
 use Rattle.std.proofs.lemmas.Bool.{ltb-true, ltb-false}
 use Rattle.sdcl_base.specs.Literal.{Clause}
-use Rattle.sdcl_base.specs.Truth.{Unsatisfiable}
 use Rattle.sdcl_base.specs.declared.lit.TheConstants.{MAX_VARIABLE}
 use Rattle.sdcl_io.specs.declared.world.InRole.TheVariants.{Proof}
 use Rattle.sdcl_io.specs.declared.world.Failed.{Failed}
-use Rattle.sdcl_io.specs.World.{Seen, OnlyRead, SameCounts, Opens, Calm, Rose}
-use Rattle.sdcl_io.specs.Step.{Step, End, Judgement, Verified, NotVerified, Ended, adds_empty}
+use Rattle.sdcl_io.specs.World.{Seen, SameCounts, Opens, Calm, Rose}
+use Rattle.sdcl_io.specs.Step.{Step, End, Verified, NotVerified}
 use Rattle.sdcl_proof.specs.declared.step.Dialect.{Dialect}
 use Rattle.sdcl_proof.specs.declared.step.Dialect.TheVariants.{Pr, Drat}
 use Rattle.sdcl_proof.specs.declared.step_reader.TheConstants.{PROOF_LIMIT}
@@ -34,13 +32,13 @@ use Rattle.sdcl.specs.declared.refusal.Refusal.{Refusal}
 use Rattle.sdcl.specs.declared.refusal.Refusal.TheVariants.{Memory, At}
 use Rattle.sdcl.specs.declared.verdict.Counts.{Counts}
 use Rattle.sdcl.specs.declared.verdict.Verdict.TheVariants as verdict
-use Rattle.sdcl.specs.Judging.{Judges, Judged, judgement, judgement_in, refusal_of, steps_of}
+use Rattle.sdcl.specs.Judging.{Judges, judgement, judgement_in, refusal_of, steps_of}
 use Rattle.sdcl.specs.Admitting.{AdmitsProof}
 use Rattle.sdcl.specs.Rewriting.{Rewrites}
 use Rattle.sdcl.specs.Counting.{TalliesSteps, IsFaulty, CountsText}
 use Rattle.sdcl.specs.Drilling.{AreHoles, drill_proof, drill_lines, made_judgement, drilled_judgement, made_name, converted_name, is_file_over}
 use Rattle.sdcl.specs.Drilling.{AreCounted, CountsAre, Drills, IsBench, IsConvertedBench, IsPigeons}
-use Rattle.sdcl.proofs.Bench.{NeverEnds, no_rise, judging_refused, rewriting_refused, told_as, calm_read, bench_read, bench_made, converted_read, left_told}
+use Rattle.sdcl.proofs.Bench.{no_rise, judging_refused, rewriting_refused, told_as, calm_read, bench_read, bench_made, converted_read, left_told}
 use Rattle.sdcl.proofs.Drilled.{made_ends, made_text, lines_verified, verified_never_ends, admitted_steps, only_memory, needs_variable, too_long, made_refused, converted_refused}
 
 -- ---- a judging

@@ -1,5 +1,5 @@
 use Rattle.std.proofs.Common.{◌≡◌, ◌∙◌, sym, Err, rules}
-use Rattle.sdcl.proofs.Drills.{long, converted_failed, converted_stopped, converted_bench, done}
+use Rattle.sdcl.proofs.Drills.{converted_failed, converted_stopped, converted_bench}
 use Rattle.sdcl.proofs.drilling.check_converted.Goals as goal
 
 pub returns-in_err-judge : goal.returns-in_err-judge
