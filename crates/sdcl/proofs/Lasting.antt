@@ -1,5 +1,5 @@
 -- What each command must have, it has: one row a command.
-use Rattle.std.proofs.Common.{◌≡◌, ◌≤◌, ◌∙◌, inl, inr, ℕ, Bool, List, [], ◌∷◌, ◌++◌, append-nil, Option, Some, None, IfSome, Err, IsTrue, refl, sym, ap, subst, arith}
+use Rattle.std.proofs.Common.{◌≡◌, ◌≤◌, ◌∙◌, inl, inr, ℕ, Bool, List, [], ◌∷◌, ◌++◌, append-nil, Option, Some, None, IfSome, Result, Ok, Err, IsTrue, refl, sym, ap, subst, arith}
 use Rattle.sdcl_base.specs.Literal.{Clause}
 use Rattle.sdcl_io.specs.declared.world.InRole.TheVariants as input
 use Rattle.sdcl_io.specs.declared.world.OutRole.{OutRole}
@@ -20,10 +20,12 @@ use Rattle.sdcl_prcheck.specs.declared.verdict.Verdict.{Verdict as Found}
 use Rattle.sdcl_prcheck.specs.declared.verdict.Verdict.TheVariants as found
 use Rattle.sdcl.specs.declared.loading.TheConstants.{FORMULA_LIMIT}
 use Rattle.sdcl.specs.declared.verdict.Verdict.{Verdict}
-use Rattle.sdcl.specs.declared.refusal.Refusal.TheVariants.{Usage}
-use Rattle.sdcl.specs.Starting.{IsFresh}
-use Rattle.sdcl.specs.Meaning.{IsMade, Performs}
-use Rattle.sdcl.specs.Commands.{Names, SolveNames, Plan, Solve, Check, Drat, Convert}
+use Rattle.sdcl.specs.declared.refusal.Refusal.{Refusal}
+use Rattle.sdcl.specs.declared.refusal.Refusal.TheVariants.{Usage, Memory, At}
+use Rattle.sdcl.specs.Starting.{IsFresh, MadeNothing}
+use Rattle.sdcl.specs.Verdicts.{CanPrint}
+use Rattle.sdcl.specs.Meaning.{IsMade, IsShown, InputRefuses, Performs}
+use Rattle.sdcl.specs.Commands.{Names, SolveNames, Plan, Solve, Check, Drat, Convert, Drill}
 use Rattle.sdcl.specs.Loading.{StandsFor, IsAccepted, IsSoundFormula, FormulaReadOut, formula_in}
 use Rattle.sdcl.specs.Judging.{JudgedAs, IsReadTo, judgement, judgement_in, steps_of}
 use Rattle.sdcl.specs.Proving.{AreMade, IsProofMade, ProofTells, JournalTells, EndsBefore, EndsWithin, WritesPath, WritesRun, outputs_of}
@@ -31,6 +33,7 @@ use Rattle.sdcl.specs.Solving.{HasBegun, HoldsPath, IsSolved, solving}
 use Rattle.sdcl.specs.Checking.{IsJudgedAs, IsSoundProof, IsVerified, IsChecked, checking_in, proof_in}
 use Rattle.sdcl.specs.Admitting.{AreProofSteps, until_empty}
 use Rattle.sdcl.specs.Converting.{HoldsConversion, IsConverted, IsSoundToConvert, NeedsVariable, proof_to_convert, proven_in, converting}
+use Rattle.sdcl.specs.Drilling.{IsDrilled, OpenedNothing, LeftAlone, Drills, drill_texts, drilling}
 use Rattle.sdcl.specs.Running.{meaning_of, refusing}
 use Rattle.sdcl.proofs.Roles.{proof_not_out, proof_not_err, journal_not_out, journal_not_err}
 use Rattle.sdcl.proofs.Streams.{OnlyStreams, OnlyReads, made_nothing, read_nothing_made, keeps_reading}
@@ -318,6 +321,21 @@ convert_lawful names name = record {
   outputs = ((λ s t u w h. h), tt);
 }
 
+opened_nothing : {s t u : Seen} → OnlyStreams t u → OpenedNothing s t → OpenedNothing s u
+opened_nothing w h = record { opened = λ r. w.opened r ∙ h.opened r; stand = λ r. w.stand r ∙ h.stand r; left = λ r. w.inputs r ∙ h.left r }
+
+left_alone : (s t u : Seen) → OnlyStreams t u → LeftAlone s t → LeftAlone s u
+left_alone s t u w h = (made_nothing w h.0, opened_nothing w h.1)
+
+drill_lawful : (holes : ℕ) → IsLawful (drilling holes)
+drill_lawful holes = record {
+  gives = λ s t u v w h. (h.0, left_alone s t u w h.1);
+  leaves = left_alone;
+  left = λ s t v h. h.1;
+  inputs = (record { faulty = λ s kind offset d h. h; over = λ s limit d h. d.0 h.1; needs = λ s n d h. (let more = h.1 in let same = h.0 in omega (arith, d.1, more, same)) }, tt);
+  outputs = tt;
+}
+
 refusing_lawful : IsLawful refusing
 refusing_lawful = record { gives = λ s t u v w h. h; leaves = λ s t u w h. made_nothing w h; left = λ s t v h. absurd h; inputs = tt; outputs = tt }
 
@@ -327,6 +345,7 @@ lawful (Some (Solve names)) = solve_lawful names
 lawful (Some (Check names)) = check_lawful dialect.Pr names
 lawful (Some (Drat names)) = check_lawful dialect.Drat names
 lawful (Some (Convert names name)) = convert_lawful names name
+lawful (Some (Drill holes)) = drill_lawful holes
 
 -- ---- words that ask for no command
 
@@ -349,3 +368,41 @@ nothing_asked {s} fresh = record {
   keeps = keeps_reading (none_read s);
   calm = λ calm told. record { reads = λ r. refl; writes = λ r. refl; opens = λ r n. refl; creates = λ r n. refl };
 }
+
+-- ---- a drill, whose world is its own
+
+can_print_drill : (holes : ℕ) (v : Verdict) → IsDrilled holes v → CanPrint v
+can_print_drill holes v (inl h) = subst CanPrint (sym h.is) tt
+can_print_drill holes v (inr h) = subst CanPrint (sym h.is) tt
+
+drill_shown : (holes : ℕ) (s : Seen) (e : Refusal) → MadeNothing s s → InputRefuses (drill_texts holes) s s e → IsShown (drilling holes) s s e
+drill_shown holes s Usage m h = absurd h
+drill_shown holes s Memory m h = inl refl
+drill_shown holes s (At p x) m h = inl (record { has = inl (record { place = h.0; before = tt; has = h.1; unopened = tt }); made_nothing = m; out = refl })
+
+drill_answers : (holes : ℕ) (s : Seen) (result : Result Verdict Refusal) → IsFresh s → Drills holes result → Performs (drilling holes) s s result
+drill_answers holes s (Ok v) fresh h =
+    let alone : LeftAlone s s = (read_nothing_made fresh (none_read s), record { opened = λ r. refl; stand = λ r. refl; left = λ r. refl }) in
+    record {
+      ok = ((h.ok, alone), can_print_drill holes v h.ok);
+      err = tt;
+      out = refl;
+      silent = refl;
+      there = (refl, refl);
+      keeps = keeps_reading (none_read s);
+      calm = λ calm told. record { reads = λ r. refl; writes = λ r. refl; opens = λ r n. refl; creates = λ r n. refl };
+    }
+drill_answers holes s (Err e) fresh h =
+    let alone : LeftAlone s s = (read_nothing_made fresh (none_read s), record { opened = λ r. refl; stand = λ r. refl; left = λ r. refl }) in
+    record {
+      ok = tt;
+      err = record { shown = drill_shown holes s e alone.0 (h.err s s); leaves = alone };
+      out = refl;
+      silent = refl;
+      there = (refl, refl);
+      keeps = keeps_reading (none_read s);
+      calm = λ calm told. record { reads = λ r. refl; writes = λ r. refl; opens = λ r n. refl; creates = λ r n. refl };
+    }
+
+pub drilled : {holes : ℕ} {s : Seen} {result : Result Verdict Refusal} → IsFresh s → Drills holes result → Performs (drilling holes) s s result
+drilled {holes} {s} {result} fresh h = drill_answers holes s result fresh h

@@ -44,6 +44,7 @@ pub record IsSoundProof (dialect : Dialect) (names : Names) (s : Seen) : Type 0 
 -- the proof of a formula, which is opened once that is accepted
 abbrev pub proof_in : Dialect → Names → Input
 proof_in dialect names = record {
+  is_file = true;
   place = place.Proof;
   role = input.Proof;
   name = names.proof;

@@ -1,9 +1,11 @@
 -- What the words of a command ask for.
-use Rattle.std.specs.Prelude.{◌≡◌, ⊤, ℕ, ◌==◌, Bool, false, not, ◌&&◌, List, [], ◌∷◌, Option, Some, None, IfSome, option_map, codes, string_bytes, if◌then◌else◌}
+use Rattle.std.specs.Prelude.{◌≡◌, ◌≤◌, ⊤, ℕ, ◌==◌, nat_le, Bool, false, not, ◌&&◌, List, [], ◌∷◌, Option, Some, None, IfSome, option_map, codes, string_bytes, if◌then◌else◌}
 use Rattle.std.specs.Borrow.{Bor}
 use Rattle.std.specs.Str.{bytes_eq}
 use Rattle.std.specs.declared.string.String.{String}
 use Rattle.std.specs.declared.alloc.Global.{Global}
+use Rattle.sdcl_io.specs.Words.{number_word}
+use Rattle.sdcl_make.specs.declared.formula.TheConstants.{MOST_HOLES}
 use Rattle.sdcl.specs.declared.commands.Command.{Command}
 use Rattle.sdcl.specs.declared.commands.Command.TheVariants as command
 
@@ -24,6 +26,7 @@ pub data Plan : Type 0 where
   Check : (names : Names) → Plan
   Drat : (names : Names) → Plan
   Convert : (names : Names) (output : List ℕ) → Plan
+  Drill : (holes : ℕ) → Plan
 
 -- what stands behind this front
 abbrev pub behind : List ℕ → List ℕ → Option (List ℕ)
@@ -68,9 +71,17 @@ abbrev pub solve_three : List ℕ → List ℕ → Option (List ℕ) → Option 
 solve_three f p None = None
 solve_three f p (Some j) = solve_plan f (Some p) (Some j)
 
--- `solve` and one name
+-- a drill of so many holes, where they are in the range
+abbrev pub drill_plan : Option ℕ → Option Plan
+drill_plan None = None
+drill_plan (Some holes) = if nat_le 1 holes && nat_le holes MOST_HOLES then Some (Drill holes) else None
+
+-- `solve` and one name, or `drill` and a number
 abbrev pub plan_on_one : List ℕ → List ℕ → Option Plan
-plan_on_one w f = if bytes_eq w (codes "solve") then solve_one f (journal_in f) else None
+plan_on_one w f =
+    if bytes_eq w (codes "solve") then solve_one f (journal_in f)
+    else if bytes_eq w (codes "drill") then drill_plan (number_word f)
+    else None
 
 -- `solve`, `check` or `drat` and two names
 abbrev pub plan_on_two : List ℕ → List ℕ → List ℕ → Option Plan
@@ -108,15 +119,17 @@ plan_in (command.Solve f p j) = Solve (record { formula = f.now; proof = text_of
 plan_in (command.Check f p) = Check (record { formula = f.now; proof = p.now })
 plan_in (command.Drat f p) = Drat (record { formula = f.now; proof = p.now })
 plan_in (command.Convert f p o) = Convert (record { formula = f.now; proof = p.now }) o.now
+plan_in (command.Drill holes) = Drill holes
 
 -- two files that are written have different names
 abbrev pub AreDifferent : Option (List ℕ) → Option (List ℕ) → Type 0
 AreDifferent proof journal = IfSome proof (λ p. IfSome journal (λ j. p ≡ j → ⊥))
 
--- what is written has a name of its own
+-- what is written has a name of its own, and holes are in their range
 abbrev pub AreApart : Plan → Type 0
 AreApart (Solve names) =
     IfSome names.proof (λ p. p ≡ names.formula → ⊥) × IfSome names.journal (λ j. j ≡ names.formula → ⊥) × AreDifferent names.proof names.journal
 AreApart (Check names) = ⊤
 AreApart (Drat names) = ⊤
 AreApart (Convert names output) = (output ≡ names.formula → ⊥) × (output ≡ names.proof → ⊥)
+AreApart (Drill holes) = (1 ≤ holes) × (holes ≤ MOST_HOLES)

@@ -15,4 +15,6 @@ pub mod Drat
 pub mod Admitting
 pub mod Rewriting
 pub mod Converting
+pub mod Counting
+pub mod Drilling
 pub mod Running

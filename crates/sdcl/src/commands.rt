@@ -2,7 +2,11 @@
 ghost use Rattle.std.specs.Prelude.{◌≡◌, MatchOption, IfSome, Some, None};
 ghost use Rattle.sdcl.specs.Commands.{plan_of, plan_on_one, plan_on_two, plan_on_three, plan_in, AreApart};
 ghost use Rattle.sdcl.specs.Commands.{solve_plan, convert_plan, journal_in, text_of_name};
+ghost use Rattle.sdcl.specs.Commands.{drill_plan};
 ghost use Rattle.sdcl.specs.Commands as spec;
+
+use sdcl_io::number;
+use sdcl_make::MOST_HOLES;
 
 /// What a run is to do, and to which files.
 #[derive(Clone, Copy, Debug, PartialEq, Eq)]
@@ -29,13 +33,18 @@ pub enum Command<'w> {
         proof: &'w str,
         output: &'w str,
     },
+    /// Check the proof of a pigeonhole formula of so many holes, convert it, and check it again.
+    Drill {
+        holes: u32,
+    },
 }
 
 // What stands before the name of a journal.
 const JOURNAL: &str = "--journal=";
 
 /// The command that the words are: `solve`, the names of the formula and perhaps of the proof, and
-/// perhaps a last word `--journal=NAME`; `check` or `drat` and two names; or `convert` and three.
+/// perhaps a last word `--journal=NAME`; `check` or `drat` and two names; `convert` and three; or
+/// `drill` and a number of holes.
 /// What is written has a name of its own.
 pub fn command_of(words: &[String]) -> Option<Command<'_>>
     ensures plan { MatchOption result (plan_of words.now ≡ None)
@@ -53,7 +62,7 @@ pub fn command_of(words: &[String]) -> Option<Command<'_>>
     }
 }
 
-// The command with one name.
+// The command with one name, or a number.
 fn on_one<'w>(command: &'w str, formula: &'w str) -> Option<Command<'w>>
     ensures plan { MatchOption result (plan_on_one command.now formula.now ≡ None)
         (λ c. plan_on_one command.now formula.now ≡ Some (plan_in c)) }
@@ -64,6 +73,7 @@ fn on_one<'w>(command: &'w str, formula: &'w str) -> Option<Command<'w>>
             Some(_) => None,
             None => solving(formula, None, None),
         },
+        "drill" => drilling(number(formula.as_bytes())),
         _ => None,
     }
 }
@@ -103,6 +113,20 @@ fn on_three<'w>(
             None => None,
         },
         "convert" => converting(formula, proof, output),
+        _ => None,
+    }
+}
+
+// The drill of so many holes, where they are in the range.
+fn drilling<'w>(holes: Option<u64>) -> Option<Command<'w>>
+    ensures plan { MatchOption result (drill_plan holes ≡ None)
+        (λ c. drill_plan holes ≡ Some (plan_in c)) }
+    ensures apart { IfSome result (λ c. AreApart (plan_in c)) }
+{
+    match holes {
+        Some(holes) if holes >= 1 && holes <= u64::from(MOST_HOLES) => Some(Command::Drill {
+            holes: holes as u32,
+        }),
         _ => None,
     }
 }

@@ -9,6 +9,7 @@ use crate::checking::check;
 use crate::commands::{Command, command_of};
 use crate::converting::convert;
 use crate::drat::drat;
+use crate::drilling::drill;
 use crate::printing::print;
 use crate::refusal::{Refusal, complain};
 use crate::solving::solve;
@@ -70,5 +71,6 @@ fn perform<W: World>(alloc: Global, world: &mut W, command: Command<'_>) -> Resu
             proof,
             output,
         } => convert(alloc, world, formula, proof, output),
+        Command::Drill { holes } => drill(alloc, holes),
     }
 }

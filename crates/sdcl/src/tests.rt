@@ -5,6 +5,7 @@ ghost use Rattle.sdcl.specs.Starting.{IsFresh};
 mod checking;
 mod converting;
 mod drat;
+mod drilling;
 mod journal;
 mod pigeons;
 

@@ -27,7 +27,7 @@ witnesses_on (Add c ∷ ss) more = witnesses_on ss more
 witnesses_on (AddWitness c w ∷ ss) more = omega (arith, witnesses_on ss more)
 witnesses_on (Delete c ∷ ss) more = witnesses_on ss more
 
-witnesses_first : (s : Step) (ss : List Step) (x : ℕ) → next_variable s x + witnesses ss ≡ x + witnesses (s ∷ ss)
+pub witnesses_first : (s : Step) (ss : List Step) (x : ℕ) → next_variable s x + witnesses ss ≡ x + witnesses (s ∷ ss)
 witnesses_first (Add c) ss x = refl
 witnesses_first (AddWitness c w) ss x = omega arith
 witnesses_first (Delete c) ss x = refl

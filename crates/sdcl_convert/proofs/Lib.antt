@@ -10,3 +10,4 @@ pub mod Apart
 pub mod Turning
 pub mod Ending
 pub mod Gone
+pub mod Formed

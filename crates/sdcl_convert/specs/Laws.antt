@@ -1,10 +1,15 @@
 -- Laws over the conversion of proofs, each stated for a public function with an empty body.
-use Rattle.std.specs.Prelude.{ℕ, ◌+◌, ◌*◌, ◌<◌, ◌≡◌, Bool, true, false, List, [], ◌∷◌, ◌++◌, length}
+use Rattle.std.specs.Prelude.{ℕ, ◌+◌, ◌*◌, ◌<◌, ◌≤◌, ◌≡◌, Bool, true, false, List, [], ◌∷◌, ◌++◌, length}
 use Rattle.std.specs.List.{filter, list_any}
 use Rattle.sdcl_base.specs.Literal.{Literal, Clause, same_set}
 use Rattle.sdcl_base.specs.Sets.{In}
 use Rattle.sdcl_base.specs.Redundancy.{pr}
+use Rattle.sdcl_base.specs.declared.lit.TheConstants.{MAX_VARIABLE}
 use Rattle.sdcl_io.specs.Step.{Step, Add, AddWitness, Delete, Deletions, All, End, Verified, judge, apply_all, ValidSteps}
+use Rattle.sdcl_proof.specs.declared.step.Dialect.TheVariants.{Pr, Drat}
+use Rattle.sdcl_proof.specs.Steps.{IsClean}
+use Rattle.sdcl_proof.specs.RoundTrip.{AreFormed}
+use Rattle.sdcl_convert.specs.Checked.{witnesses}
 use Rattle.sdcl_convert.specs.Conversion.{reduced, shaken, block, converted, converted_apart, has_witness}
 
 -- x is above every variable of c
@@ -80,3 +85,18 @@ ConvertedVerified = (mode : Deletions) (f : List Clause) (steps : List Step) (x 
 
 abbrev pub ConvertedPlain : Type 0
 ConvertedPlain = (mode : Deletions) (f : List Clause) (steps : List Step) (x : ℕ) → list_any has_witness (converted mode f steps x) ≡ false
+
+-- the clauses are clean
+abbrev pub AreClean : List Clause → Type 0
+AreClean f = (d : Clause) → In f d → IsClean d
+
+-- x and the variables behind it are enough for the proof's blocks, and above those of the formula and the additions
+pub record HasRoom (f : List Clause) (ss : List Step) (x : ℕ) : Type 0 where
+  pub some : 1 ≤ x
+  pub enough : x + witnesses ss ≤ MAX_VARIABLE + 1
+  pub formula : AllBelow x f
+  pub additions : StepsBelow x ss
+
+-- Where the clauses are clean and the steps well-formed, so are the lines of the converted proof: their text is read as these lines.
+abbrev pub ApartFormed : Type 0
+ApartFormed = (f : List Clause) (ss : List Step) (x : ℕ) → AreClean f → AreFormed Pr ss → HasRoom f ss x → AreFormed Drat (converted_apart All f ss x)

@@ -5,3 +5,4 @@ pub mod Ranging
 pub mod Forms
 pub mod Lengths
 pub mod Tallies
+pub mod Clauses
