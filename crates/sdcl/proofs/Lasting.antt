@@ -13,6 +13,7 @@ use Rattle.sdcl_proof.specs.Files.{HoldsSteps}
 use Rattle.sdcl_journal.specs.Machine.{Rules, Event, Path, Run, event_steps, steps}
 use Rattle.sdcl_journal.specs.RunOutputs.{HoldsEvents}
 use Rattle.sdcl_outer.specs.declared.solving.Answer.{Answer}
+use Rattle.sdcl_outer.specs.declared.solving.Options.{Options}
 use Rattle.sdcl_base.specs.declared.lit.TheConstants.{MAX_VARIABLE}
 use Rattle.sdcl_convert.specs.Checked.{needed}
 use Rattle.sdcl_convert.specs.Converting.{lines_for}
@@ -25,7 +26,7 @@ use Rattle.sdcl.specs.declared.refusal.Refusal.TheVariants.{Usage, Memory, At}
 use Rattle.sdcl.specs.Starting.{IsFresh, MadeNothing}
 use Rattle.sdcl.specs.Verdicts.{CanPrint}
 use Rattle.sdcl.specs.Meaning.{IsMade, IsShown, InputRefuses, Performs}
-use Rattle.sdcl.specs.Commands.{Names, SolveNames, Plan, Solve, Check, Drat, Convert, Drill}
+use Rattle.sdcl_words.specs.Plans.{Names, SolveNames, Plan, Solve, Check, Drat, Convert, Drill}
 use Rattle.sdcl.specs.Loading.{StandsFor, IsAccepted, IsSoundFormula, FormulaReadOut, formula_in}
 use Rattle.sdcl.specs.Judging.{JudgedAs, IsReadTo, judgement, judgement_in, steps_of}
 use Rattle.sdcl.specs.Proving.{AreMade, IsProofMade, ProofTells, JournalTells, EndsBefore, EndsWithin, WritesPath, WritesRun, outputs_of}
@@ -158,8 +159,8 @@ run_stays {proof} {journal} {r} {f} {t} {u} {a} w h = record {
   bears = h.bears;
 }
 
-holds_path : (names : SolveNames) (s t u : Seen) → OnlyStreams t u → HoldsPath names s t → HoldsPath names s u
-holds_path names s t u w h = record {
+holds_path : (names : SolveNames) (opts : Options) (s t u : Seen) → OnlyStreams t u → HoldsPath names opts s t → HoldsPath names opts s u
+holds_path names opts s t u w h = record {
   variables = h.variables;
   clauses = h.clauses;
   text = h.text;
@@ -184,9 +185,9 @@ has_begun names s t u w h = (
   },
 )
 
-solves : (names : SolveNames) (s t u : Seen) (v : Verdict) → OnlyStreams t u → IsSolved names s t v → IsSolved names s u v
+solves : (names : SolveNames) (opts : Options) (s t u : Seen) (v : Verdict) → OnlyStreams t u → IsSolved names opts s t v → IsSolved names opts s u v
 unfolding run_stays
-solves names s t u v w h = record {
+solves names opts s t u v w h = record {
   variables = h.variables;
   clauses = h.clauses;
   text = h.text;
@@ -238,13 +239,13 @@ solve_outputs (Some p) None before = ((λ s t u w h. h), tt)
 solve_outputs None (Some j) before = ((λ s t u w h. (h.0, proof_made_stays None t u w h.1)), tt)
 solve_outputs (Some p) (Some j) before = ((λ s t u w h. h), ((λ s t u w h. (h.0, proof_made_stays (Some p) t u w h.1)), tt))
 
-solve_lawful : (names : SolveNames) → IsLawful (solving names)
-solve_lawful names = record {
-  gives = solves names;
+solve_lawful : (names : SolveNames) (opts : Options) → IsLawful (solving names opts)
+solve_lawful names opts = record {
+  gives = solves names opts;
   leaves = λ s t u w h. elim h [
     | inl a ↦ inl (made_nothing w a)
     | inr (inl a) ↦ inr (inl (has_begun names s t u w a))
-    | inr (inr a) ↦ inr (inr (holds_path names s t u w a))
+    | inr (inr a) ↦ inr (inr (holds_path names opts s t u w a))
   ];
   left = λ s t v h. inr (inr (record { variables = h.variables; clauses = h.clauses; text = h.text; made = h.made; written = whole_path h.written }));
   inputs = (lawful_formula names.formula, tt);
@@ -341,7 +342,7 @@ refusing_lawful = record { gives = λ s t u v w h. h; leaves = λ s t u w h. mad
 
 pub lawful : (asked : Option Plan) → IsLawful (meaning_of asked)
 lawful None = refusing_lawful
-lawful (Some (Solve names)) = solve_lawful names
+lawful (Some (Solve names opts)) = solve_lawful names opts
 lawful (Some (Check names)) = check_lawful dialect.Pr names
 lawful (Some (Drat names)) = check_lawful dialect.Drat names
 lawful (Some (Convert names name)) = convert_lawful names name
@@ -362,6 +363,31 @@ pub nothing_asked : {s : Seen} → IsFresh s → Performs refusing s s (Err Usag
 nothing_asked {s} fresh = record {
   ok = tt;
   err = record { shown = (refl, refl); leaves = read_nothing_made fresh (none_read s) };
+  out = refl;
+  silent = refl;
+  there = (refl, refl);
+  keeps = keeps_reading (none_read s);
+  calm = λ calm told. record { reads = λ r. refl; writes = λ r. refl; opens = λ r n. refl; creates = λ r n. refl };
+}
+
+-- ---- memory was not found for the words
+
+opened_none : (s : Seen) → OpenedNothing s s
+opened_none s = record { opened = λ r. refl; stand = λ r. refl; left = λ r. refl }
+
+-- where nothing was done, nothing was made
+untouched : (asked : Option Plan) (s : Seen) → MadeNothing s s → (meaning_of asked).leaves s s
+untouched None s h = h
+untouched (Some (Solve names opts)) s h = inl h
+untouched (Some (Check names)) s h = h
+untouched (Some (Drat names)) s h = h
+untouched (Some (Convert names name)) s h = inl h
+untouched (Some (Drill holes)) s h = (h, opened_none s)
+
+pub nothing_found : (asked : Option Plan) (s : Seen) → IsFresh s → Performs (meaning_of asked) s s (Err Memory)
+nothing_found asked s fresh = record {
+  ok = tt;
+  err = record { shown = inl refl; leaves = untouched asked s (read_nothing_made fresh (none_read s)) };
   out = refl;
   silent = refl;
   there = (refl, refl);

@@ -7,6 +7,7 @@ mod converting;
 mod drat;
 mod drilling;
 mod journal;
+mod options;
 mod pigeons;
 
 use crate::run::run;
@@ -214,7 +215,7 @@ fn other_words_are_a_usage_fault(rt: HostRuntime) -> Result<(), Fail> {
         &["solve", "f", "--journal=f"],
         &["solve", "f", "p", "--journal=f"],
         &["solve", "f", "p", "--journal=p"],
-        &["solve", "f", "--journal=j", "p"],
+        &["solve", "f", "--journal=j", "--journal=k"],
         &["solve", "f", "p", "q", "--journal=j"],
         &["solve", "f", "p", "q"],
         &["check"],

@@ -1,14 +1,6 @@
 use Rattle.std.proofs.Common.{◌≡◌, ◌∙◌, Option, Some, None, Err, ℕ, List, IsTrue, refl, sym, subst, rules}
-use Rattle.std.specs.Prelude.{is_some}
-use Rattle.std.specs.Borrow.{Bor}
-use Rattle.sdcl.specs.Commands.{text_of_name}
 use Rattle.sdcl.proofs.Proved.{makes, proof_empty, journal_empty, journal_fails, finished}
 use Rattle.sdcl.proofs.proving.prove.Goals as goal
-
--- a name that there may be is there where its text is
-same_there : (x : Option (Bor (List ℕ))) → is_some (text_of_name x) ≡ is_some x
-same_there None = refl
-same_there (Some x) = refl
 
 pub returns-in_err-create-2-clause-proves : goal.returns-in_err-create-2-clause-proves
 returns-in_err-create-2-clause-proves g c =
@@ -18,15 +10,15 @@ returns-in_err-create-2-clause-proves g c =
 pub solve_into_files-requires-clause-proof_empty : goal.solve_into_files-requires-clause-proof_empty
 solve_into_files-requires-clause-proof_empty g c = λ asked.
     proof_empty (makes (g.W.World.seen c.create.new.world) c.requires.apart c.in_ok-create.was c.in_ok-create-2.was c.create.ensures.creates c.create-2.ensures.creates)
-    (subst IsTrue (c.is_some.ensures ∙ sym (same_there c.args.proof)) asked)
+    (subst IsTrue (c.is_some.ensures) asked)
 
 pub solve_into_files-requires-clause-journal_empty : goal.solve_into_files-requires-clause-journal_empty
 solve_into_files-requires-clause-journal_empty g c = λ asked.
     journal_empty (makes (g.W.World.seen c.create.new.world) c.requires.apart c.in_ok-create.was c.in_ok-create-2.was c.create.ensures.creates c.create-2.ensures.creates)
-    (subst IsTrue (c.is_some-2.ensures ∙ sym (same_there c.args.journal)) asked)
+    (subst IsTrue (c.is_some-2.ensures) asked)
 
 pub returns-clause-proves : goal.returns-clause-proves
 returns-clause-proves g c =
-    finished (same_there c.args.proof ∙ sym c.is_some.ensures) (same_there c.args.journal ∙ sym c.is_some-2.ensures) c.requires.apart
+    finished (sym c.is_some.ensures) (sym c.is_some-2.ensures) c.requires.apart
     (makes (g.W.World.seen c.create.new.world) c.requires.apart c.in_ok-create.was c.in_ok-create-2.was c.create.ensures.creates c.create-2.ensures.creates)
     c.solve_into_files.ensures.onward c.solve_into_files.ensures.ok c.solve_into_files.ensures.err c.solve_into_files.ensures.stops
