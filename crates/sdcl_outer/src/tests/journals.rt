@@ -169,31 +169,54 @@ impl Generator {
     }
 }
 
+fn budget_at(row: u32) -> u64 {
+    match row {
+        0 => 0,
+        1 => 2,
+        _ => 1000,
+    }
+}
+
+fn reduct_at(row: u32) -> ReductMode {
+    match row {
+        0 => ReductMode::Off,
+        1 => ReductMode::Positive,
+        _ => ReductMode::Filtered,
+    }
+}
+
+fn depth_at(row: u32) -> u32 {
+    match row {
+        0 => 0,
+        _ => 20,
+    }
+}
+
+fn decide_at(row: u32) -> DecideKind {
+    match row {
+        0 => DecideKind::Static,
+        1 => DecideKind::MoveToFront,
+        _ => DecideKind::Scored,
+    }
+}
+
+fn restart_at(row: u32) -> RestartKind {
+    match row {
+        0 => RestartKind::Never,
+        1 => RestartKind::Luby,
+        _ => RestartKind::Glue,
+    }
+}
+
 // The options of a row: each rule of decisions stands beside each rule of restarts, and both beside each mode.
 fn options_at(row: u32, inner_budget: u64) -> Options {
     Options {
-        budget: match row % 3 {
-            0 => 0,
-            1 => 2,
-            _ => 1000,
-        },
-        reduct: match row / 3 % 3 {
-            0 => ReductMode::Off,
-            1 => ReductMode::Positive,
-            _ => ReductMode::Filtered,
-        },
-        depth: if row % 18 < 9 { 0 } else { 20 },
+        budget: budget_at(row % 3),
+        reduct: reduct_at(row / 3 % 3),
+        depth: depth_at(row / 9 % 2),
         inner_budget,
-        decide: match row / 18 % 3 {
-            0 => DecideKind::Static,
-            1 => DecideKind::MoveToFront,
-            _ => DecideKind::Scored,
-        },
-        restart: match row / 54 {
-            0 => RestartKind::Never,
-            1 => RestartKind::Luby,
-            _ => RestartKind::Glue,
-        },
+        decide: decide_at(row / 18 % 3),
+        restart: restart_at(row / 54),
     }
 }
 
