@@ -116,9 +116,9 @@ const RUNS: [(&[u8], &[&str], u8, &[u8], &[u8], &[u8]); 14] = [
         b"p cnf 4 3\n-1 2 0\n-3 4 0\n-1 -2 -3 -4 0\n",
         &["--reduct=off", "--decide=scored"],
         10,
-        b"s SATISFIABLE\nv 1 2 -3 4 0\n",
+        b"s SATISFIABLE\nv 1 2 -3 -4 0\n",
         b"-3 -1 0\n",
-        b"decide 1\ndecide 3\nlearn -3 -1 0\nback 1\ndecide 4\nmodel\n",
+        b"decide 1\ndecide 3\nlearn -3 -1 0\nback 1\ndecide -4\nmodel\n",
     ),
     (
         b"p cnf 4 3\n-1 2 0\n-3 4 0\n-1 -2 -3 -4 0\n",
