@@ -283,166 +283,204 @@ const HALF: [i64; 7] = [-1, 2, 3, 0, -2, 3, 0];
 // The clauses (1 2 3) and (-1 2 3).
 const EITHER: [i64; 8] = [1, 2, 3, 0, -1, 2, 3, 0];
 
-fn options(reduct: ReductMode, budget: u64, depth: u32, inner_budget: u64) -> Options {
-    Options {
-        budget,
-        reduct,
-        depth,
-        inner_budget,
-        decide: DecideKind::Static,
-        restart: RestartKind::Never,
-    }
+const USUAL: Options = Options {
+    budget: 1000,
+    reduct: ReductMode::Filtered,
+    depth: 20,
+    inner_budget: 1000,
+    decide: DecideKind::Static,
+    restart: RestartKind::Never,
+};
+
+const ONCE: Options = Options { budget: 1, ..USUAL };
+
+const NEVER: Options = Options { budget: 0, ..USUAL };
+
+const PLAIN: Options = Options {
+    reduct: ReductMode::Off,
+    ..USUAL
+};
+
+const SHALLOW: Options = Options { depth: 0, ..USUAL };
+
+const POSITIVE: Options = Options {
+    reduct: ReductMode::Positive,
+    ..USUAL
+};
+
+const HASTY: Options = Options {
+    inner_budget: 0,
+    ..POSITIVE
+};
+
+// A run, how it ends, and what it tells.
+struct Row {
+    numbers: &'static [i64],
+    variables: u32,
+    options: Options,
+    ends: u32,
+    steps: &'static [i64],
+    events: &'static [i64],
 }
+
+const ROWS: [Row; 18] = [
+    Row {
+        numbers: &[],
+        variables: 0,
+        options: USUAL,
+        ends: 10,
+        steps: &[],
+        events: &[9],
+    },
+    Row {
+        numbers: &[0],
+        variables: 1,
+        options: USUAL,
+        ends: 20,
+        steps: &[0],
+        events: &[8],
+    },
+    Row {
+        numbers: &[1, 0, -1, 0],
+        variables: 1,
+        options: USUAL,
+        ends: 20,
+        steps: &[0],
+        events: &[8],
+    },
+    Row {
+        numbers: &[1, -1, 0],
+        variables: 1,
+        options: USUAL,
+        ends: 10,
+        steps: &[],
+        events: &[1, 1, 9],
+    },
+    Row {
+        numbers: &[1, 2, 0],
+        variables: 2,
+        options: USUAL,
+        ends: 10,
+        steps: &[],
+        events: &[1, 1, 2, 1, 2, 9],
+    },
+    Row {
+        numbers: &TWO_HOLES,
+        variables: 6,
+        options: USUAL,
+        ends: 20,
+        steps: &[-1, 0, 0],
+        events: &[1, 1, 4, -1, 0, 6, 0, 8],
+    },
+    Row {
+        numbers: &TWO_HOLES,
+        variables: 6,
+        options: ONCE,
+        ends: 20,
+        steps: &[-1, 0, 0],
+        events: &[1, 1, 4, -1, 0, 6, 0, 8],
+    },
+    Row {
+        numbers: &TWO_HOLES,
+        variables: 6,
+        options: NEVER,
+        ends: 0,
+        steps: &[],
+        events: &[1, 1, 10],
+    },
+    Row {
+        numbers: &HALF,
+        variables: 3,
+        options: USUAL,
+        ends: 10,
+        steps: &[-1, -1, 0],
+        events: &[1, 1, 5, -1, 0, -1, 0, 6, 0, 1, 2, 9],
+    },
+    Row {
+        numbers: &HALF,
+        variables: 3,
+        options: PLAIN,
+        ends: 10,
+        steps: &[],
+        events: &[1, 1, 1, 2, 9],
+    },
+    Row {
+        numbers: &HALF,
+        variables: 3,
+        options: SHALLOW,
+        ends: 10,
+        steps: &[],
+        events: &[1, 1, 1, 2, 9],
+    },
+    Row {
+        numbers: &HALF,
+        variables: 3,
+        options: NEVER,
+        ends: 0,
+        steps: &[],
+        events: &[1, 1, 10],
+    },
+    Row {
+        numbers: &EITHER,
+        variables: 3,
+        options: USUAL,
+        ends: 10,
+        steps: &[-1, -1, 0],
+        events: &[1, 1, 5, -1, 0, -1, 0, 6, 0, 1, 2, 2, 1, 3, 9],
+    },
+    Row {
+        numbers: &EITHER,
+        variables: 3,
+        options: POSITIVE,
+        ends: 10,
+        steps: &[-1, -2, -1, 0],
+        events: &[1, 1, 2, 1, 2, 5, -1, -2, 0, -1, 0, 6, 1, 9],
+    },
+    Row {
+        numbers: &EITHER,
+        variables: 3,
+        options: HASTY,
+        ends: 10,
+        steps: &[],
+        events: &[1, 1, 2, 1, 2, 3, 2, 1, 3, 9],
+    },
+    // what analysis gives: as long as the decisions, shorter, and where a decision plays no part
+    Row {
+        numbers: &[-1, -2, 3, 0, -1, -2, -3, 0],
+        variables: 3,
+        options: PLAIN,
+        ends: 10,
+        steps: &[-2, -1, 0],
+        events: &[1, 1, 1, 2, 4, -2, -1, 0, 6, 1, 1, 3, 9],
+    },
+    Row {
+        numbers: &[-1, 2, 0, -2, 3, 0, -2, -3, 0],
+        variables: 3,
+        options: PLAIN,
+        ends: 10,
+        steps: &[-2, 0],
+        events: &[1, 1, 4, -2, 0, 6, 0, 1, 3, 9],
+    },
+    Row {
+        numbers: &[-1, 2, 0, -3, 4, 0, -1, -2, -3, -4, 0],
+        variables: 4,
+        options: PLAIN,
+        ends: 10,
+        steps: &[-3, -1, 0],
+        events: &[1, 1, 1, 3, 4, -3, -1, 0, 6, 1, 1, 4, 9],
+    },
+];
 
 #[test]
 fn runs_tell_their_steps_and_events(rt: HostRuntime) -> Result<(), Fail> {
     let alloc = rt.alloc();
-    let usual = options(ReductMode::Filtered, 1000, 20, 1000);
-    let once = options(ReductMode::Filtered, 1, 20, 1000);
-    let never = options(ReductMode::Filtered, 0, 20, 1000);
-    let plain = options(ReductMode::Off, 1000, 20, 1000);
-    let shallow = options(ReductMode::Filtered, 1000, 0, 1000);
-    let positive = options(ReductMode::Positive, 1000, 20, 1000);
-    let hasty = options(ReductMode::Positive, 1000, 20, 0);
-    let cases = [
-        ([].as_slice(), 0, usual, 10, [].as_slice(), [9].as_slice()),
-        ([0].as_slice(), 1, usual, 20, [0].as_slice(), [8].as_slice()),
-        (
-            [1, 0, -1, 0].as_slice(),
-            1,
-            usual,
-            20,
-            [0].as_slice(),
-            [8].as_slice(),
-        ),
-        (
-            [1, -1, 0].as_slice(),
-            1,
-            usual,
-            10,
-            [].as_slice(),
-            [1, 1, 9].as_slice(),
-        ),
-        (
-            [1, 2, 0].as_slice(),
-            2,
-            usual,
-            10,
-            [].as_slice(),
-            [1, 1, 2, 1, 2, 9].as_slice(),
-        ),
-        (
-            TWO_HOLES.as_slice(),
-            6,
-            usual,
-            20,
-            [-1, 0, 0].as_slice(),
-            [1, 1, 4, -1, 0, 6, 0, 8].as_slice(),
-        ),
-        (
-            TWO_HOLES.as_slice(),
-            6,
-            once,
-            20,
-            [-1, 0, 0].as_slice(),
-            [1, 1, 4, -1, 0, 6, 0, 8].as_slice(),
-        ),
-        (
-            TWO_HOLES.as_slice(),
-            6,
-            never,
-            0,
-            [].as_slice(),
-            [1, 1, 10].as_slice(),
-        ),
-        (
-            HALF.as_slice(),
-            3,
-            usual,
-            10,
-            [-1, -1, 0].as_slice(),
-            [1, 1, 5, -1, 0, -1, 0, 6, 0, 1, 2, 9].as_slice(),
-        ),
-        (
-            HALF.as_slice(),
-            3,
-            plain,
-            10,
-            [].as_slice(),
-            [1, 1, 1, 2, 9].as_slice(),
-        ),
-        (
-            HALF.as_slice(),
-            3,
-            shallow,
-            10,
-            [].as_slice(),
-            [1, 1, 1, 2, 9].as_slice(),
-        ),
-        (
-            HALF.as_slice(),
-            3,
-            never,
-            0,
-            [].as_slice(),
-            [1, 1, 10].as_slice(),
-        ),
-        (
-            EITHER.as_slice(),
-            3,
-            usual,
-            10,
-            [-1, -1, 0].as_slice(),
-            [1, 1, 5, -1, 0, -1, 0, 6, 0, 1, 2, 2, 1, 3, 9].as_slice(),
-        ),
-        (
-            EITHER.as_slice(),
-            3,
-            positive,
-            10,
-            [-1, -2, -1, 0].as_slice(),
-            [1, 1, 2, 1, 2, 5, -1, -2, 0, -1, 0, 6, 1, 9].as_slice(),
-        ),
-        (
-            EITHER.as_slice(),
-            3,
-            hasty,
-            10,
-            [].as_slice(),
-            [1, 1, 2, 1, 2, 3, 2, 1, 3, 9].as_slice(),
-        ),
-        // what analysis gives: as long as the decisions, shorter, and where a decision plays no part
-        (
-            [-1, -2, 3, 0, -1, -2, -3, 0].as_slice(),
-            3,
-            plain,
-            10,
-            [-2, -1, 0].as_slice(),
-            [1, 1, 1, 2, 4, -2, -1, 0, 6, 1, 1, 3, 9].as_slice(),
-        ),
-        (
-            [-1, 2, 0, -2, 3, 0, -2, -3, 0].as_slice(),
-            3,
-            plain,
-            10,
-            [-2, 0].as_slice(),
-            [1, 1, 4, -2, 0, 6, 0, 1, 3, 9].as_slice(),
-        ),
-        (
-            [-1, 2, 0, -3, 4, 0, -1, -2, -3, -4, 0].as_slice(),
-            4,
-            plain,
-            10,
-            [-3, -1, 0].as_slice(),
-            [1, 1, 1, 3, 4, -3, -1, 0, 6, 1, 1, 4, 9].as_slice(),
-        ),
-    ];
-    for (numbers, variables, options, ends, steps, events) in cases {
-        let told = run(&rt, alloc, numbers, variables, &options)?;
-        assert_eq!(rt; told.ends, ends);
-        assert_eq!(rt; told.steps.as_slice(), steps);
-        assert_eq!(rt; told.events.as_slice(), events);
-        assert_eq!(rt; run_untold(&rt, alloc, numbers, variables, &options)?, ends);
+    for row in &ROWS {
+        let told = run(&rt, alloc, row.numbers, row.variables, &row.options)?;
+        assert_eq!(rt; told.ends, row.ends);
+        assert_eq!(rt; told.steps.as_slice(), row.steps);
+        assert_eq!(rt; told.events.as_slice(), row.events);
+        let ends = run_untold(&rt, alloc, row.numbers, row.variables, &row.options)?;
+        assert_eq!(rt; ends, row.ends);
     }
     Ok(())
 }
@@ -450,7 +488,6 @@ fn runs_tell_their_steps_and_events(rt: HostRuntime) -> Result<(), Fail> {
 #[test]
 fn models_take_the_lowest_variable_as_true(rt: HostRuntime) -> Result<(), Fail> {
     let alloc = rt.alloc();
-    let plain = options(ReductMode::Off, 1000, 20, 1000);
     let cases = [
         ([1, 2, 0].as_slice(), 2, [1, 2].as_slice()),
         ([1, -1, 0].as_slice(), 1, [1].as_slice()),
@@ -460,7 +497,7 @@ fn models_take_the_lowest_variable_as_true(rt: HostRuntime) -> Result<(), Fail> 
         (TWO_HOLES.as_slice(), 6, [].as_slice()),
     ];
     for (numbers, variables, literals) in cases {
-        let found = model_of(&rt, alloc, numbers, variables, &plain)?;
+        let found = model_of(&rt, alloc, numbers, variables, &PLAIN)?;
         assert_eq!(rt; found.as_slice(), literals);
     }
     Ok(())
@@ -500,7 +537,11 @@ fn pigeonholes_are_refuted_with_reducts_and_without(rt: HostRuntime) -> Result<(
     for (holes, variables) in [(1, 2), (2, 6), (3, 12), (4, 20)] {
         let numbers = pigeons(alloc, holes)?;
         for reduct in [ReductMode::Off, ReductMode::Positive, ReductMode::Filtered] {
-            let options = options(reduct, 100000, 20, 1000);
+            let options = Options {
+                budget: 100000,
+                reduct,
+                ..USUAL
+            };
             let told = run(&rt, alloc, numbers.as_slice(), variables, &options)?;
             assert_eq!(rt; told.ends, 20);
             assert_eq!(rt; told.steps.last(), Some(&0));
@@ -534,7 +575,7 @@ fn end_failing(
 #[test]
 fn a_call_that_failed_is_the_last_one(rt: HostRuntime) -> Result<(), Fail> {
     let alloc = rt.alloc();
-    let usual = options(ReductMode::Filtered, 9, 20, 1000);
+    let options = Options { budget: 9, ..USUAL };
     // decide; the step and the event of the learned clause; back; the step and the event of the empty clause
     for (most, ends, calls) in [
         (0, 6, 1),
@@ -545,7 +586,7 @@ fn a_call_that_failed_is_the_last_one(rt: HostRuntime) -> Result<(), Fail> {
         (5, 6, 6),
         (6, 20, 6),
     ] {
-        let (found, made) = end_failing(&rt, alloc, &usual, most)?;
+        let (found, made) = end_failing(&rt, alloc, &options, most)?;
         assert_eq!(rt; found, ends);
         assert_eq!(rt; made, calls);
     }

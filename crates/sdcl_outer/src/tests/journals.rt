@@ -4,7 +4,7 @@ ghost use Rattle.sdcl_journal.specs.Recorders.{recorded_events};
 
 use super::machine::{Entry, Machine};
 use super::sets::bit;
-use super::{EITHER, TWO_HOLES, ending, store_of};
+use super::{EITHER, PLAIN, TWO_HOLES, USUAL, ending, store_of};
 use crate::{Options, solve};
 use sdcl_base::{Lit, ReductMode};
 use sdcl_decide::DecideKind;
@@ -318,21 +318,24 @@ fn changed(
     at: usize,
     change: Change,
 ) -> Result<Vec<Entry>, Fail> {
-    let mut list = Vec::new(alloc);
-    let mut place = 0usize;
-    for entry in entries {
-        if place != at {
-            list.push(*entry)?;
-        } else if let Change::Replace(other) = change {
-            list.push(other)?;
-        } else if let Change::Insert(other) = change {
-            list.push(other)?;
-            list.push(*entry)?;
+    let mut list = entries.to_vec(alloc)?;
+    match change {
+        Change::Replace(other) => {
+            if at < list.len() {
+                list[at] = other;
+            }
         }
-        place = place.saturating_add(1);
-    }
-    if let Change::Append(other) = change {
-        list.push(other)?;
+        Change::Remove => {
+            if at < list.len() {
+                let _gone = list.remove(at);
+            }
+        }
+        Change::Insert(other) => {
+            if at < list.len() {
+                list.insert(at, other)?;
+            }
+        }
+        Change::Append(other) => list.push(other)?,
     }
     Ok(list)
 }
@@ -352,15 +355,6 @@ const N3: u32 = 128;
 
 const N4: u32 = 512;
 
-const USUAL: Options = Options {
-    budget: 1000,
-    reduct: ReductMode::Filtered,
-    depth: 20,
-    inner_budget: 1000,
-    decide: DecideKind::Static,
-    restart: RestartKind::Never,
-};
-
 // Decide 1, LearnWitness -1 by -1, Back 0, Decide 2, NoWitness, Decide 3, Model.
 const FILTERED: Given = Given {
     numbers: &EITHER,
@@ -373,12 +367,8 @@ const POSITIVE: Given = Given {
     numbers: &EITHER,
     variables: 3,
     options: Options {
-        budget: 1000,
         reduct: ReductMode::Positive,
-        depth: 20,
-        inner_budget: 1000,
-        decide: DecideKind::Static,
-        restart: RestartKind::Never,
+        ..USUAL
     },
 };
 
@@ -387,12 +377,9 @@ const HASTY: Given = Given {
     numbers: &EITHER,
     variables: 3,
     options: Options {
-        budget: 1000,
         reduct: ReductMode::Positive,
-        depth: 20,
         inner_budget: 0,
-        decide: DecideKind::Static,
-        restart: RestartKind::Never,
+        ..USUAL
     },
 };
 
@@ -400,14 +387,7 @@ const HASTY: Given = Given {
 const SHALLOW: Given = Given {
     numbers: &EITHER,
     variables: 3,
-    options: Options {
-        budget: 1000,
-        reduct: ReductMode::Filtered,
-        depth: 0,
-        inner_budget: 1000,
-        decide: DecideKind::Static,
-        restart: RestartKind::Never,
-    },
+    options: Options { depth: 0, ..USUAL },
 };
 
 // Decide 1, Learn -1, Back 0, Empty.
@@ -421,14 +401,7 @@ const PIGEONS: Given = Given {
 const SPENT: Given = Given {
     numbers: &TWO_HOLES,
     variables: 6,
-    options: Options {
-        budget: 0,
-        reduct: ReductMode::Filtered,
-        depth: 20,
-        inner_budget: 1000,
-        decide: DecideKind::Static,
-        restart: RestartKind::Never,
-    },
+    options: Options { budget: 0, ..USUAL },
 };
 
 // Decide 1, Unknown: a witness is found.
@@ -437,21 +410,9 @@ const BROKE: Given = Given {
     variables: 3,
     options: Options {
         budget: 0,
-        reduct: ReductMode::Filtered,
-        depth: 20,
         inner_budget: 0,
-        decide: DecideKind::Static,
-        restart: RestartKind::Never,
+        ..USUAL
     },
-};
-
-const PLAIN: Options = Options {
-    budget: 1000,
-    reduct: ReductMode::Off,
-    depth: 20,
-    inner_budget: 1000,
-    decide: DecideKind::Static,
-    restart: RestartKind::Never,
 };
 
 // Decide 1, Decide 2, Decide 3, Model.
@@ -473,12 +434,9 @@ const TIGHT: Given = Given {
     numbers: &[-1, 2, 0, -1, -2, 0],
     variables: 3,
     options: Options {
-        budget: 1000,
         reduct: ReductMode::Positive,
-        depth: 20,
         inner_budget: 0,
-        decide: DecideKind::Static,
-        restart: RestartKind::Never,
+        ..USUAL
     },
 };
 
