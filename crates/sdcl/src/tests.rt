@@ -317,14 +317,14 @@ const BROKEN: [(CallKind, u64, u8, &[u8], Option<&[u8]>); 8] = [
     ),
     (
         CallKind::Write(OutRole::Proof),
-        3,
+        2,
         6,
         b"sdcl: write fault proof\n",
         Some(b"-1 "),
     ),
     (
         CallKind::Write(OutRole::Proof),
-        4,
+        3,
         6,
         b"sdcl: write fault proof\n",
         Some(b"-1 0\n"),
@@ -375,7 +375,7 @@ const CALLS: [(CallKind, u8, u64); 5] = [
     (CallKind::Open(InRole::Formula), 4, 1),
     (CallKind::Read(InRole::Formula), 5, 2),
     (CallKind::Create(OutRole::Proof), 4, 1),
-    (CallKind::Write(OutRole::Proof), 6, 4),
+    (CallKind::Write(OutRole::Proof), 6, 3),
     (CallKind::Write(OutRole::Out), 6, 1),
 ];
 

@@ -76,8 +76,8 @@ fn failing(alloc: Global, words: &[&str], kind: CallKind, nth: u64) -> Result<En
 
 // What is written, how often three pigeons write it, and the line of a failing.
 const WRITES: [(OutRole, u64, &[u8]); 3] = [
-    (OutRole::Proof, 4, b"sdcl: write fault proof\n"),
-    (OutRole::Journal, 11, b"sdcl: write fault journal\n"),
+    (OutRole::Proof, 3, b"sdcl: write fault proof\n"),
+    (OutRole::Journal, 10, b"sdcl: write fault journal\n"),
     (OutRole::Out, 1, b"sdcl: write fault out\n"),
 ];
 
