@@ -24,54 +24,61 @@ fn words_of(alloc: Global, words: &[&str]) -> Result<Vec<String>, AllocError> {
     Ok(list)
 }
 
-// What a run leaves.
+// The status of a run, and the world as it left it.
 #[derive(Drop)]
 struct Ended {
     code: u8,
-    out: Vec<u8>,
-    err: Vec<u8>,
-    proof: Option<Vec<u8>>,
-    output: Option<Vec<u8>>,
-    journal: Option<Vec<u8>>,
-}
-
-// Whether a file is there, and holds the text.
-fn is_file(held: &Option<Vec<u8>>, wanted: Option<&[u8]>) -> bool {
-    match (held, wanted) {
-        (Some(held), Some(wanted)) => held.as_slice() == wanted,
-        (None, None) => true,
-        _ => false,
-    }
+    world: MemoryWorld,
 }
 
 // Whether a file is not there, or holds a prefix of the text.
-fn is_prefix(held: &Option<Vec<u8>>, whole: &[u8]) -> bool {
+fn is_prefix(held: Option<&[u8]>, whole: &[u8]) -> bool {
     match held {
-        Some(held) => whole.starts_with(held.as_slice()),
+        Some(held) => whole.starts_with(held),
         None => true,
     }
 }
 
 impl Ended {
+    fn out(&self) -> &[u8] {
+        self.world.out()
+    }
+
+    fn err(&self) -> &[u8] {
+        self.world.err()
+    }
+
+    fn proof(&self) -> Option<&[u8]> {
+        self.world.file("p")
+    }
+
+    fn output(&self) -> Option<&[u8]> {
+        self.world.file("o")
+    }
+
+    fn journal(&self) -> Option<&[u8]> {
+        self.world.file("j")
+    }
+
     fn is(&self, code: u8, out: &[u8], err: &[u8], proof: Option<&[u8]>) -> bool {
-        let says = self.out.as_slice() == out && self.err.as_slice() == err;
-        self.code == code && says && is_file(&self.proof, proof)
+        let says = self.out() == out && self.err() == err;
+        self.code == code && says && self.proof() == proof
     }
 
     fn wrote(&self, output: Option<&[u8]>) -> bool {
-        is_file(&self.output, output)
+        self.output() == output
     }
 
     fn told(&self, journal: Option<&[u8]>) -> bool {
-        is_file(&self.journal, journal)
+        self.journal() == journal
     }
 
     fn leaves_a_prefix_of(&self, whole: &[u8]) -> bool {
-        is_prefix(&self.proof, whole)
+        is_prefix(self.proof(), whole)
     }
 
     fn tells_a_prefix_of(&self, whole: &[u8]) -> bool {
-        is_prefix(&self.journal, whole)
+        is_prefix(self.journal(), whole)
     }
 }
 
@@ -124,28 +131,14 @@ fn end(
     most: usize,
     failing: Option<(CallKind, u64)>,
 ) -> Result<Ended, Fail> {
-    let words = words_of(alloc, words)?;
     let mut world = MemoryWorld::new(alloc);
     put(&mut world, "f", files.formula)?;
     put(&mut world, "p", files.proof)?;
     world.cut_reads(most.max(1));
     plan_failure(&mut world, failing)?;
+    let words = words_of(alloc, words)?;
     let code = run(alloc, &mut world, words.as_slice()).code();
-    Ok(Ended {
-        code,
-        out: Vec::from_slice(alloc, world.out())?,
-        err: Vec::from_slice(alloc, world.err())?,
-        proof: copy_of(alloc, &world, "p")?,
-        output: copy_of(alloc, &world, "o")?,
-        journal: copy_of(alloc, &world, "j")?,
-    })
-}
-
-fn copy_of(alloc: Global, world: &MemoryWorld, name: &str) -> Result<Option<Vec<u8>>, AllocError> {
-    Ok(match world.file(name) {
-        Some(held) => Some(Vec::from_slice(alloc, held)?),
-        None => None,
-    })
+    Ok(Ended { code, world })
 }
 
 const NO_FILES: Files<'static> = Files {

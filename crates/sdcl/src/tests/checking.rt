@@ -229,18 +229,12 @@ fn what_solve_writes_is_verified(rt: HostRuntime) -> Result<(), Fail> {
     for (formula, lines) in PIGEONS {
         let solved = end(rt.alloc(), &["solve", "f", "p"], only(formula), 4096, None)?;
         assert_eq!(rt; solved.code, 20);
-        assert!(rt; solved.out.as_slice() == b"s UNSATISFIABLE\n".as_slice());
-        let proof = solved.proof.ok_or("no proof")?;
+        assert!(rt; solved.out() == b"s UNSATISFIABLE\n".as_slice());
+        let proof = solved.proof().ok_or("no proof")?;
         let written = proof.iter().filter(|byte| **byte == b'\n').count();
         assert!(rt; written < lines);
-        let checked = end(
-            rt.alloc(),
-            &CHECK,
-            both(formula, proof.as_slice()),
-            4096,
-            None,
-        )?;
-        assert!(rt; checked.is(0, b"s VERIFIED\n", b"", Some(proof.as_slice())));
+        let checked = end(rt.alloc(), &CHECK, both(formula, proof), 4096, None)?;
+        assert!(rt; checked.is(0, b"s VERIFIED\n", b"", Some(proof)));
     }
     Ok(())
 }

@@ -115,17 +115,12 @@ fn convert_and_judge(
     proof: &[u8],
 ) -> Result<Ended, Fail> {
     let ended = end(alloc, &CONVERT, both(formula, proof), 4096, None)?;
-    let Some(output) = &ended.output else {
+    let Some(output) = ended.output() else {
         return Err("no output".into());
     };
-    let judged = end(
-        alloc,
-        &["drat", "f", "p"],
-        both(formula, output.as_slice()),
-        4096,
-        None,
-    )?;
-    assert!(rt; judged.code == 0 && judged.out.as_slice() == b"s VERIFIED\n".as_slice());
+    let files = both(formula, output);
+    let judged = end(alloc, &["drat", "f", "p"], files, 4096, None)?;
+    assert!(rt; judged.code == 0 && judged.out() == b"s VERIFIED\n".as_slice());
     Ok(ended)
 }
 
@@ -133,7 +128,7 @@ fn convert_and_judge(
 fn pigeons_have_their_counts(rt: HostRuntime) -> Result<(), Fail> {
     for (formula, proof, counts) in PIGEONS {
         let ended = convert_and_judge(&rt, rt.alloc(), formula, proof)?;
-        assert!(rt; ended.out.as_slice() == counts);
+        assert!(rt; ended.out() == counts);
     }
     Ok(())
 }
@@ -211,12 +206,12 @@ fn a_failing_write_leaves_a_prefix(rt: HostRuntime) -> Result<(), Fail> {
             4096,
             failing,
         )?;
-        let Some(output) = &ended.output else {
+        let Some(output) = ended.output() else {
             return Err("no output".into());
         };
-        assert!(rt; COPIES_LINES.starts_with(output.as_slice()));
+        assert!(rt; COPIES_LINES.starts_with(output));
         if ended.code == 0 {
-            assert!(rt; nth > 26 && output.as_slice() == COPIES_LINES);
+            assert!(rt; nth > 26 && output == COPIES_LINES);
             return Ok(());
         }
         assert!(rt; ended.is(6, b"", b"sdcl: write fault output\n", Some(COPIES_PROOF)));
@@ -274,7 +269,7 @@ fn a_failing_call_has_its_line(rt: HostRuntime) -> Result<(), Fail> {
             4096,
             Some((kind, 1)),
         )?;
-        assert!(rt; ended.is(code, b"", line, Some(UNIT)) && ended.output.is_some() == made);
+        assert!(rt; ended.is(code, b"", line, Some(UNIT)) && ended.output().is_some() == made);
     }
     Ok(())
 }

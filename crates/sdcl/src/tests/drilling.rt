@@ -79,7 +79,7 @@ fn a_drill_only_prints(rt: HostRuntime) -> Result<(), Fail> {
     for (kind, code, err) in CALLS {
         // a file that has the name of its proof is not read, and stays
         let ended = end(rt.alloc(), &["drill", "2"], only(b"x"), 1, Some((kind, 1)))?;
-        assert!(rt; ended.code == code && ended.err.as_slice() == err);
+        assert!(rt; ended.code == code && ended.err() == err);
         assert!(rt; ended.wrote(None) && ended.told(None));
     }
     Ok(())

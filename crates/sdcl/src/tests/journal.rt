@@ -88,7 +88,7 @@ fn a_failing_write_leaves_prefixes_of_one_run(rt: HostRuntime) -> Result<(), Fai
         for nth in 1..13u64 {
             let ended = failing(rt.alloc(), &ALL, CallKind::Write(role), nth)?;
             if nth <= made {
-                assert!(rt; ended.code == 6 && ended.err.as_slice() == line);
+                assert!(rt; ended.code == 6 && ended.err() == line);
                 assert!(rt; ended.leaves_a_prefix_of(proof) && ended.tells_a_prefix_of(journal));
             } else {
                 assert!(rt; ended.is(20, out, b"", Some(proof)) && ended.told(Some(journal)));

@@ -216,13 +216,6 @@ fn told_of(journal: &[u8]) -> (u32, u32, u32) {
     (learned, forgotten, restarts)
 }
 
-fn held(file: &Option<Vec<u8>>) -> &[u8] {
-    match file {
-        Some(bytes) => bytes.as_slice(),
-        None => &[],
-    }
-}
-
 fn lines_of(text: &[u8]) -> u32 {
     let mut lines = 0u32;
     for b in text {
@@ -247,9 +240,8 @@ fn a_long_run_restarts_and_forgets_and_its_steps_are_valid(rt: HostRuntime) -> R
         None,
     )?;
     assert_eq!(rt; ended.code, 0);
-    assert!(rt; ended.proof.is_some() && ended.journal.is_some());
-    let proof = held(&ended.proof);
-    let journal = held(&ended.journal);
+    let proof = ended.proof().ok_or("no proof")?;
+    let journal = ended.journal().ok_or("no journal")?;
     let (learned, forgotten, restarts) = told_of(journal);
     assert_eq!(rt; learned, 2500);
     assert!(rt; forgotten > 0, "{forgotten}");
@@ -261,6 +253,6 @@ fn a_long_run_restarts_and_forgets_and_its_steps_are_valid(rt: HostRuntime) -> R
     push_number(&mut out, lines_of(proof).saturating_add(1))?;
     out.push(b'\n')?;
     assert_eq!(rt; checked.code, 1);
-    assert_eq!(rt; checked.out.as_slice(), out.as_slice());
+    assert_eq!(rt; checked.out(), out.as_slice());
     Ok(())
 }
