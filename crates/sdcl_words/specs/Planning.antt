@@ -12,8 +12,8 @@ use Rattle.sdcl_decide.specs.declared.decider.DecideKind.{DecideKind}
 use Rattle.sdcl_decide.specs.declared.decider.DecideKind.TheVariants.{Static, MoveToFront, Scored}
 use Rattle.sdcl_restart.specs.declared.restart.RestartKind.{RestartKind}
 use Rattle.sdcl_restart.specs.declared.restart.RestartKind.TheVariants.{Never, Luby, Glue}
-use Rattle.sdcl_make.specs.declared.formula.TheConstants.{MOST_HOLES}
 use Rattle.sdcl_outer.specs.declared.solving.Options.{Options}
+use Rattle.sdcl_words.specs.declared.plan.TheConstants.{MOST_DRILLED}
 use Rattle.sdcl_words.specs.Plans.{Names, SolveNames, Plan, Solve, Check, Drat, Convert, Drill}
 use Rattle.sdcl_words.specs.Plans.{are_apart}
 use Rattle.sdcl_words.specs.declared.verb.Verb.{Verb}
@@ -100,7 +100,7 @@ convert_planned rows = with_value (input_names rows) (λ names.
 -- a drill
 abbrev pub drill_planned : List Row → Option Plan
 drill_planned rows =
-    option_map (λ holes. Drill holes) (wanted_number (codes "holes") 1 MOST_HOLES rows)
+    option_map (λ holes. Drill holes) (wanted_number (codes "holes") 1 MOST_DRILLED rows)
 
 -- ---- the words
 

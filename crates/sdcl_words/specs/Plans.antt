@@ -3,9 +3,9 @@ use Rattle.std.specs.Prelude.{◌≡◌, ⊤, ℕ, ◌≤◌, Bool, false, not, 
 use Rattle.std.specs.Prelude.{IfSome, Result, Ok, Err}
 use Rattle.std.specs.Str.{bytes_eq}
 use Rattle.sdcl_base.specs.declared.lit.TheConstants.{MAX_VARIABLE}
-use Rattle.sdcl_make.specs.declared.formula.TheConstants.{MOST_HOLES}
 use Rattle.sdcl_outer.specs.declared.solving.Options.{Options}
 use Rattle.sdcl_words.specs.declared.options.TheConstants.{MOST_LEARNED}
+use Rattle.sdcl_words.specs.declared.plan.TheConstants.{MOST_DRILLED}
 use Rattle.sdcl_words.specs.declared.plan.Plan as declared
 use Rattle.sdcl_words.specs.declared.plan.Plan.TheVariants as plan
 use Rattle.sdcl_words.specs.declared.plan.PlanError.{PlanError}
@@ -80,7 +80,7 @@ AreWithin (Solve names options) =
 AreWithin (Check names) = ⊤
 AreWithin (Drat names) = ⊤
 AreWithin (Convert names output) = ⊤
-AreWithin (Drill holes) = (1 ≤ holes) × (holes ≤ MOST_HOLES)
+AreWithin (Drill holes) = (1 ≤ holes) × (holes ≤ MOST_DRILLED)
 
 -- ---- an answer
 

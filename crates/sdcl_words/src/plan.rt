@@ -4,6 +4,9 @@ use sdcl_outer::Options;
 use std::alloc::AllocError;
 use thiserror::Error;
 
+/// The greatest number of holes that `drill` takes.
+pub const MOST_DRILLED: u32 = 32;
+
 /// What a run is to do, and to which files.
 #[derive(Drop)]
 pub enum Plan {

@@ -10,11 +10,10 @@ ghost use Rattle.sdcl_words.specs.Planning.{drat_planned, convert_planned, drill
 use crate::command::read;
 use crate::name::Name;
 use crate::options::options_of;
-use crate::plan::{Plan, PlanError};
+use crate::plan::{MOST_DRILLED, Plan, PlanError};
 use crate::value::{name_at, wanted_name, wanted_number};
 use crate::verb::{Verb, verb_of};
 use clap::ArgMatches;
-use sdcl_make::MOST_HOLES;
 use std::alloc::Global;
 
 /// The plan that the words make; the first names the command. Usage exactly where they make none.
@@ -101,7 +100,7 @@ fn convert(alloc: Global, matches: &ArgMatches<'_>) -> Result<Plan, PlanError>
 fn drill(matches: &ArgMatches<'_>) -> Result<Plan, PlanError>
     ensures { Answers (drill_planned (rows_of (found_of matches.now))) result }
 {
-    match wanted_number(matches, "holes", 1, u64::from(MOST_HOLES)) {
+    match wanted_number(matches, "holes", 1, u64::from(MOST_DRILLED)) {
         Some(holes) => Ok(Plan::Drill {
             holes: holes as u32,
         }),

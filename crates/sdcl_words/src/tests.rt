@@ -103,346 +103,259 @@ fn options_in(alloc: Global, text: &str) -> Result<Option<Options>, Fail> {
     }
 }
 
+// What each list of words asks for.
+const PLANS: &[(&str, Wanted<'static>)] = &[
+    ("solve|f", Wanted::Solve("f", None, None)),
+    ("solve|f|p", Wanted::Solve("f", Some("p"), None)),
+    ("solve|f|--journal=j", Wanted::Solve("f", None, Some("j"))),
+    (
+        "solve|--journal=j|f|p",
+        Wanted::Solve("f", Some("p"), Some("j")),
+    ),
+    (
+        "solve|f|--journal|j|p",
+        Wanted::Solve("f", Some("p"), Some("j")),
+    ),
+    ("check|f|p", Wanted::Check("f", "p")),
+    ("check|f|f", Wanted::Check("f", "f")),
+    ("drat|f|p", Wanted::Drat("f", "p")),
+    ("convert|f|p|o", Wanted::Convert("f", "p", "o")),
+    ("convert|f|f|o", Wanted::Convert("f", "f", "o")),
+    ("drill|1", Wanted::Drill(1)),
+    ("drill|32", Wanted::Drill(32)),
+    ("drill|0000000007", Wanted::Drill(7)),
+    // `-` and an empty word are names, and so is every word behind `--`
+    ("solve|-", Wanted::Solve("-", None, None)),
+    ("solve||p", Wanted::Solve("", Some("p"), None)),
+    ("solve|f|--|p", Wanted::Solve("f", Some("p"), None)),
+    ("solve|f|p|--", Wanted::Solve("f", Some("p"), None)),
+    (
+        "solve|--|-h|--help",
+        Wanted::Solve("-h", Some("--help"), None),
+    ),
+    ("check|--|-x|--", Wanted::Check("-x", "--")),
+    ("solve|f|--journal=", Wanted::Solve("f", None, Some(""))),
+    ("solve|f|--journal=--", Wanted::Solve("f", None, Some("--"))),
+    (
+        "solve|f|--journal=a=b",
+        Wanted::Solve("f", None, Some("a=b")),
+    ),
+    ("solve|f|--journal|-", Wanted::Solve("f", None, Some("-"))),
+    ("convert|a b|é|\t", Wanted::Convert("a b", "é", "\t")),
+];
+
+// The first list of words that asks for something else.
+fn other_plan(alloc: Global) -> Result<Option<usize>, Fail> {
+    for (at, (text, wanted)) in PLANS.iter().enumerate() {
+        if !makes(alloc, text, *wanted)? {
+            return Ok(Some(at));
+        }
+    }
+    Ok(None)
+}
+
 #[test]
 fn each_command_names_its_files(rt: HostRuntime) -> Result<(), Fail> {
-    let rows = [
-        ("solve|f", Wanted::Solve("f", None, None)),
-        ("solve|f|p", Wanted::Solve("f", Some("p"), None)),
-        ("solve|f|--journal=j", Wanted::Solve("f", None, Some("j"))),
-        (
-            "solve|f|p|--journal=j",
-            Wanted::Solve("f", Some("p"), Some("j")),
-        ),
-        (
-            "solve|--journal=j|f|p",
-            Wanted::Solve("f", Some("p"), Some("j")),
-        ),
-        (
-            "solve|f|--journal|j|p",
-            Wanted::Solve("f", Some("p"), Some("j")),
-        ),
-        ("check|f|p", Wanted::Check("f", "p")),
-        ("check|f|f", Wanted::Check("f", "f")),
-        ("drat|f|p", Wanted::Drat("f", "p")),
-        ("drat|f|f", Wanted::Drat("f", "f")),
-        ("convert|f|p|o", Wanted::Convert("f", "p", "o")),
-        ("convert|f|f|o", Wanted::Convert("f", "f", "o")),
-        ("drill|1", Wanted::Drill(1)),
-        ("drill|32", Wanted::Drill(32)),
-        ("drill|0000000007", Wanted::Drill(7)),
-    ];
-    for (text, wanted) in rows {
-        assert!(rt; makes(rt.alloc(), text, wanted)?, "{text}");
-    }
+    assert_eq!(rt; other_plan(rt.alloc())?, None);
     Ok(())
 }
 
-// `-` and an empty word are names, and so is every word behind `--`.
-#[test]
-fn odd_words_are_names(rt: HostRuntime) -> Result<(), Fail> {
-    let rows = [
-        ("solve|-", Wanted::Solve("-", None, None)),
-        ("solve|", Wanted::Solve("", None, None)),
-        ("solve||p", Wanted::Solve("", Some("p"), None)),
-        ("check|-|", Wanted::Check("-", "")),
-        ("solve|--|f|p", Wanted::Solve("f", Some("p"), None)),
-        ("solve|f|--|p", Wanted::Solve("f", Some("p"), None)),
-        ("solve|f|p|--", Wanted::Solve("f", Some("p"), None)),
-        (
-            "solve|--|--journal=j",
-            Wanted::Solve("--journal=j", None, None),
-        ),
-        (
-            "solve|--|-h|--help",
-            Wanted::Solve("-h", Some("--help"), None),
-        ),
-        ("check|--|-x|--", Wanted::Check("-x", "--")),
-        ("solve|f|--journal=", Wanted::Solve("f", None, Some(""))),
-        ("solve|f|--journal=-x", Wanted::Solve("f", None, Some("-x"))),
-        ("solve|f|--journal=--", Wanted::Solve("f", None, Some("--"))),
-        (
-            "solve|f|--journal=a=b",
-            Wanted::Solve("f", None, Some("a=b")),
-        ),
-        ("solve|f|--journal|-", Wanted::Solve("f", None, Some("-"))),
-        ("solve|f|--journal|", Wanted::Solve("f", None, Some(""))),
-        ("solve|solve", Wanted::Solve("solve", None, None)),
-        ("convert|a b|é|\t", Wanted::Convert("a b", "é", "\t")),
-    ];
-    for (text, wanted) in rows {
-        assert!(rt; makes(rt.alloc(), text, wanted)?, "{text}");
-    }
-    Ok(())
-}
+// Words that make no plan.
+const NO_PLANS: &[&str] = &[
+    // what is written has a name of its own
+    "solve|f|f",
+    "solve||",
+    "solve|f|p|--journal=f",
+    "solve|f|p|--journal=p",
+    "convert|f|p|f",
+    "convert|f|p|p",
+    // the first word is a command
+    "",
+    "Solve|f",
+    "solver|f",
+    "--|solve|f",
+    "help",
+    "--version",
+    // each command takes its own words
+    "solve",
+    "solve|--help",
+    "solve|f|-h",
+    "solve|f|-V",
+    "solve|f|p|q",
+    "solve|f|--journal",
+    "solve|f|--journal|-x",
+    "solve|f|--journal=a|--journal=a",
+    "solve|f|--journ=a",
+    "solve|f|-journal=a",
+    "check|f",
+    "check|f|p|o",
+    "check|f|p|--budget=1",
+    "drat|f",
+    "drat|f|p|-h",
+    "convert|f|p",
+    "convert|f|p|o|q",
+    "drill",
+    "drill|0",
+    "drill|33",
+    "drill|1|2",
+    "drill|--|-1",
+    "drill|+1",
+    "drill| 1",
+    "drill|",
+    "drill|00000000007",
+    "drill|4294967297",
+    // each option has its values
+    "solve|f|--budget=1000000001",
+    "solve|f|--budget=10000000000",
+    "solve|f|--budget=00000000001",
+    "solve|f|--budget=",
+    "solve|f|--budget",
+    "solve|f|--budget=-1",
+    "solve|f|--budget=1x",
+    "solve|f|--budget=١",
+    "solve|f|--budget=1|--budget=2",
+    "solve|f|--depth=4194304",
+    "solve|f|--depth=4294967296",
+    "solve|f|--inner-budget=1000000001",
+    "solve|f|--inner_budget=1",
+    "solve|f|--reduct=",
+    "solve|f|--reduct=Off",
+    "solve|f|--reduct=none",
+    "solve|f|--decide=off",
+    "solve|f|--restart=never",
+    "solve|f|--restart=luby|--restart=luby",
+    "solve|f|--budget=1|--depth=x",
+];
 
-#[test]
-fn what_is_written_has_a_name_of_its_own(rt: HostRuntime) -> Result<(), Fail> {
-    for text in [
-        "solve|f|f",
-        "solve||",
-        "solve|f|--journal=f",
-        "solve|f|p|--journal=f",
-        "solve|f|p|--journal=p",
-        "solve|f|f|--journal=j",
-        "solve||--journal=",
-        "convert|f|p|f",
-        "convert|f|p|p",
-        "convert|f|f|f",
-    ] {
-        assert!(rt; made(rt.alloc(), text)?.is_none(), "{text}");
+// The first of them that does.
+fn planned_after_all(alloc: Global) -> Result<Option<usize>, Fail> {
+    for (at, text) in NO_PLANS.iter().enumerate() {
+        if made(alloc, text)?.is_some() {
+            return Ok(Some(at));
+        }
     }
-    Ok(())
+    Ok(None)
 }
 
 #[test]
 fn other_words_make_no_plan(rt: HostRuntime) -> Result<(), Fail> {
-    assert!(rt; plan_of(rt.alloc(), &[]).is_err());
-    for text in [
-        "",
-        "Solve|f",
-        "solv|f",
-        "solver|f",
-        "--|solve|f",
-        "help",
-        "--help",
-        "--version",
-        "solve",
-        "solve|--help",
-        "solve|-h",
-        "solve|f|-h",
-        "solve|f|p|--help",
-        "solve|f|--version",
-        "solve|f|-V",
-        "solve|f|p|q",
-        "solve|--",
-        "solve|f|--journal",
-        "solve|f|--journal|-x",
-        "solve|f|--journal|--",
-        "solve|f|--journal=a|--journal=b",
-        "solve|f|--journal=a|--journal=a",
-        "solve|f|--journ=a",
-        "solve|f|-journal=a",
-        "solve|f|--Journal=a",
-        "solve|f|--out=a",
-        "solve|f|-x",
-        "check",
-        "check|f",
-        "check|f|p|o",
-        "check|f|p|--journal=j",
-        "check|f|p|--budget=1",
-        "drat|f",
-        "drat|f|p|o",
-        "drat|f|p|-h",
-        "convert|f|p",
-        "convert|f|p|o|q",
-        "convert|f|p|o|--help",
-        "drill",
-        "drill|0",
-        "drill|33",
-        "drill|1|2",
-        "drill|--help",
-        "drill|-1",
-        "drill|--|-1",
-        "drill|+1",
-        "drill| 1",
-        "drill|1 ",
-        "drill|1.0",
-        "drill|",
-        "drill|00000000007",
-        "drill|4294967297",
-    ] {
-        assert!(rt; made(rt.alloc(), text)?.is_none(), "{text}");
-    }
+    assert_eq!(rt; planned_after_all(rt.alloc())?, None);
     Ok(())
+}
+
+#[test]
+fn no_words_make_no_plan(rt: HostRuntime) {
+    assert!(rt; plan_of(rt.alloc(), &[]).is_err());
+}
+
+// Words of a solving, and the options that they give.
+const OPTIONS: &[(&str, Options)] = &[
+    (
+        "--budget=0",
+        Options {
+            budget: 0,
+            ..STANDARD
+        },
+    ),
+    (
+        "--budget|7",
+        Options {
+            budget: 7,
+            ..STANDARD
+        },
+    ),
+    (
+        "--budget=0000000001",
+        Options {
+            budget: 1,
+            ..STANDARD
+        },
+    ),
+    (
+        "--budget=1000000000",
+        Options {
+            budget: 1_000_000_000,
+            ..STANDARD
+        },
+    ),
+    (
+        "--depth=0",
+        Options {
+            depth: 0,
+            ..STANDARD
+        },
+    ),
+    (
+        "--depth=4194303",
+        Options {
+            depth: 4_194_303,
+            ..STANDARD
+        },
+    ),
+    (
+        "--inner-budget=0",
+        Options {
+            inner_budget: 0,
+            ..STANDARD
+        },
+    ),
+    (
+        "--inner-budget=1000000000",
+        Options {
+            inner_budget: 1_000_000_000,
+            ..STANDARD
+        },
+    ),
+    (
+        "--reduct=positive",
+        Options {
+            reduct: ReductMode::Positive,
+            ..STANDARD
+        },
+    ),
+    ("--reduct=filtered", STANDARD),
+    ("--decide=static", STANDARD),
+    (
+        "--decide=front",
+        Options {
+            decide: DecideKind::MoveToFront,
+            ..STANDARD
+        },
+    ),
+    ("--restart=none", STANDARD),
+    (
+        "--restart=luby",
+        Options {
+            restart: RestartKind::Luby,
+            ..STANDARD
+        },
+    ),
+    ("--journal=j", STANDARD),
+    (
+        "--restart=glue|p|--decide=scored|--inner-budget|3|--depth=2|--reduct=off|--budget=1",
+        Options {
+            budget: 1,
+            reduct: ReductMode::Off,
+            depth: 2,
+            inner_budget: 3,
+            decide: DecideKind::Scored,
+            restart: RestartKind::Glue,
+        },
+    ),
+];
+
+// The first of them that gives others.
+fn other_options(alloc: Global) -> Result<Option<usize>, Fail> {
+    for (at, (text, wanted)) in OPTIONS.iter().enumerate() {
+        if options_in(alloc, text)? != Some(*wanted) {
+            return Ok(Some(at));
+        }
+    }
+    Ok(None)
 }
 
 #[test]
 fn each_option_has_its_range(rt: HostRuntime) -> Result<(), Fail> {
-    let rows = [
-        (
-            "--budget=0",
-            Options {
-                budget: 0,
-                ..STANDARD
-            },
-        ),
-        (
-            "--budget=7",
-            Options {
-                budget: 7,
-                ..STANDARD
-            },
-        ),
-        (
-            "--budget|7",
-            Options {
-                budget: 7,
-                ..STANDARD
-            },
-        ),
-        (
-            "--budget=0000000001",
-            Options {
-                budget: 1,
-                ..STANDARD
-            },
-        ),
-        (
-            "--budget=999999999",
-            Options {
-                budget: 999_999_999,
-                ..STANDARD
-            },
-        ),
-        (
-            "--budget=1000000000",
-            Options {
-                budget: 1_000_000_000,
-                ..STANDARD
-            },
-        ),
-        (
-            "--depth=0",
-            Options {
-                depth: 0,
-                ..STANDARD
-            },
-        ),
-        (
-            "--depth=4194303",
-            Options {
-                depth: 4_194_303,
-                ..STANDARD
-            },
-        ),
-        (
-            "--inner-budget=0",
-            Options {
-                inner_budget: 0,
-                ..STANDARD
-            },
-        ),
-        (
-            "--inner-budget=1000000000",
-            Options {
-                inner_budget: 1_000_000_000,
-                ..STANDARD
-            },
-        ),
-        (
-            "--reduct=off",
-            Options {
-                reduct: ReductMode::Off,
-                ..STANDARD
-            },
-        ),
-        (
-            "--reduct=positive",
-            Options {
-                reduct: ReductMode::Positive,
-                ..STANDARD
-            },
-        ),
-        ("--reduct=filtered", STANDARD),
-        ("--decide=static", STANDARD),
-        (
-            "--decide=front",
-            Options {
-                decide: DecideKind::MoveToFront,
-                ..STANDARD
-            },
-        ),
-        (
-            "--decide|scored",
-            Options {
-                decide: DecideKind::Scored,
-                ..STANDARD
-            },
-        ),
-        ("--restart=none", STANDARD),
-        (
-            "--restart=luby",
-            Options {
-                restart: RestartKind::Luby,
-                ..STANDARD
-            },
-        ),
-        (
-            "--restart=glue",
-            Options {
-                restart: RestartKind::Glue,
-                ..STANDARD
-            },
-        ),
-        ("--journal=j", STANDARD),
-    ];
-    for (text, wanted) in rows {
-        assert_eq!(rt; options_in(rt.alloc(), text)?, Some(wanted), "{text}");
-    }
-    Ok(())
-}
-
-#[test]
-fn options_are_given_together_and_in_any_order(rt: HostRuntime) -> Result<(), Fail> {
-    let text =
-        "--restart=glue|p|--decide=scored|--inner-budget|3|--depth=2|--reduct=off|--budget=1";
-    let wanted = Options {
-        budget: 1,
-        reduct: ReductMode::Off,
-        depth: 2,
-        inner_budget: 3,
-        decide: DecideKind::Scored,
-        restart: RestartKind::Glue,
-    };
-    assert_eq!(rt; options_in(rt.alloc(), text)?, Some(wanted));
-    Ok(())
-}
-
-#[test]
-fn other_values_make_no_plan(rt: HostRuntime) -> Result<(), Fail> {
-    for text in [
-        "--budget=1000000001",
-        "--budget=9999999999",
-        "--budget=10000000000",
-        "--budget=00000000001",
-        "--budget=",
-        "--budget",
-        "--budget=-1",
-        "--budget=+1",
-        "--budget= 1",
-        "--budget=1 ",
-        "--budget=0x1",
-        "--budget=1_000",
-        "--budget=1e3",
-        "--budget=one",
-        "--budget=١",
-        "--budget=1|--budget=2",
-        "--bud=1",
-        "--depth=4194304",
-        "--depth=4294967296",
-        "--depth=",
-        "--depth=20.0",
-        "--inner-budget=1000000001",
-        "--inner_budget=1",
-        "--inner=1",
-        "--reduct=",
-        "--reduct=Off",
-        "--reduct=OFF",
-        "--reduct=none",
-        "--reduct=filter",
-        "--reduct=filtered ",
-        "--decide=",
-        "--decide=Scored",
-        "--decide=moves",
-        "--decide=off",
-        "--restart=",
-        "--restart=off",
-        "--restart=never",
-        "--restart=GLUE",
-        "--restart=luby|--restart=luby",
-        "--budget=1|--depth=x",
-    ] {
-        assert_eq!(rt; options_in(rt.alloc(), text)?, None, "{text}");
-    }
+    assert_eq!(rt; other_options(rt.alloc())?, None);
     Ok(())
 }
