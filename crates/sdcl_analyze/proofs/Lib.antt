@@ -10,4 +10,3 @@ pub mod Results
 pub mod Learning
 pub mod Heights
 pub mod Joining
-pub mod Driving
