@@ -72,7 +72,9 @@ fn propagates(alloc: Global) -> Result<bool, Fail> {
     let one = preferred(alloc, &[1], 3)?;
     let refuted = engine.refutes(&mut trail, &store, both.lits());
     let alone = engine.refutes(&mut trail, &store, one.lits());
-    put(&mut trail, one.at(0));
+    if let Some(l) = literal_of(1, 3) {
+        put(&mut trail, l);
+    }
     let conflict = engine.propagate(&mut trail, &store);
     let closed = mask_of(trail.lits()) == mask_from(&[1, 2, 3]);
     Ok(refuted && !alone && conflict.is_none() && closed)
@@ -320,7 +322,8 @@ fn covers_all(trail: &Trail, variables: u32) -> bool
 
 // The set of the literals of a model.
 pub fn mask_of_model(values: &Assignment, variables: u32) -> u32
-    requires { variables < length values.now }
+    requires small { variables < 1000 }
+    requires wide { variables < length values.now }
 {
     let mut mask = 0;
     for x in 1..variables + 1 {
