@@ -1,7 +1,6 @@
-use Rattle.std.proofs.Common.{arith, ◌≡◌, ◌<◌, List, length, map, set, get_or, ap}
+use Rattle.std.proofs.Common.{arith, ◌≡◌, ◌<◌, length, get_or, ap}
 use Rattle.std.proofs.lemmas.List.{length-map, map-set, get_or_read}
 use Rattle.std.proofs.Math.Seq.{map-set_same}
-use Rattle.sdcl_base.specs.Literal.{Literal}
 use Rattle.sdcl_prop.specs.declared.nodes.Node.{Node}
 use Rattle.sdcl_prop.proofs.Pairs.{pair_is}
 use Rattle.sdcl_prop.proofs.nodes.Nodes.set_lit.Goals as goal
